@@ -1,0 +1,21 @@
+// The program: the command text from standard input, over a disk in memory.
+mod session;
+mod show;
+
+use session::Session;
+use std::error::AnyError;
+use std::io::Read;
+use std::io::Write;
+
+fn run(rt: &LibcRuntime) -> Result<(), AnyError> {
+    let mut text = Vec::new(rt.alloc());
+    rt.stdin().read_to_end(&mut text)?;
+    let mut session = Session::new(rt.alloc());
+    session.run(text.as_slice())?;
+    rt.stdout().write_all(session.output().as_bytes())?;
+    Ok(())
+}
+
+fn main(rt: LibcRuntime) -> Result<(), AnyError> {
+    rt.report(run(&rt))
+}

@@ -1,0 +1,42 @@
+// Names and bytes as they are printed.
+use layout::name::Name;
+use std::alloc::AllocError;
+use std::alloc::Global;
+
+// How many bytes are printed to a line.
+const LINE: usize = 0x10;
+
+fn push_hex(heap: Global, out: &mut String, b: u8) -> Result<(), AllocError> {
+    out.push_str(format!(heap, "{b:02x}")?.as_str())
+}
+
+// The name without the blanks behind it, with `\xHH` for a byte that is not plain text, for a backslash, and for a blank in front.
+pub fn push_name(heap: Global, out: &mut String, name: &Name) -> Result<(), AllocError> {
+    let mut end = Name::SIZE;
+    while end > 1 && name.bytes[end - 1] == b' ' {
+        end -= 1;
+    }
+    for i in 0..end {
+        let b = name.bytes[i];
+        if b < b' ' || b > b'~' || b == b'\\' || (b == b' ' && i == 0) {
+            out.push_str("\\x")?;
+            push_hex(heap, out, b)?;
+        } else {
+            out.push(char::from(b))?;
+        }
+    }
+    Ok(())
+}
+
+// The bytes in hexadecimal, a blank between two, a line feed behind each line.
+pub fn push_bytes(heap: Global, out: &mut String, bytes: &[u8]) -> Result<(), AllocError> {
+    for (i, b) in bytes.iter().enumerate() {
+        push_hex(heap, out, *b)?;
+        if i % LINE == LINE - 1 || i + 1 == bytes.len() {
+            out.push('\n')?;
+        } else {
+            out.push(' ')?;
+        }
+    }
+    Ok(())
+}

@@ -1,0 +1,4 @@
+pub mod Slices
+pub mod Codec
+pub mod Finding
+pub mod Copying

@@ -1,0 +1,4 @@
+pub mod Parts
+pub mod Entries
+pub mod Files
+pub mod Words
