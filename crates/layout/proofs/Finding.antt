@@ -3,18 +3,19 @@ use mathlib.Core.Path.{_≡_, refl, sym, ap, subst, _∙_}
 use mathlib.Core.Bool.{Bool, true, false, cond, _&&_}
 use mathlib.Core.List.{List}
 use mathlib.Core.Logic.{_⊎_, ⊎-elim}
-use Prim.Native.Nat.{ℕ, zero, suc, _+_, _<_, _≤_}
+use Prim.Native.Nat.{ℕ, zero, suc, _+_, _*_, _-_, min, _<_, _≤_}
 use native.Mathlib.Nat.{add-zero, add-suc}
 use native.Mathlib.Omega.{arith}
 use Rattle.std.specs.Options.{mapped}
 use Rattle.std.specs.Orderings.{Decides}
 use Rattle.std.specs.declared.option.Option.the-variants.{Some, None}
 use Rattle.std.proofs.shelf.Equals.{sameBytes-decides}
-use Rattle.std.proofs.shelf.Tests.{cases-bool, cases-eq, cases-lt, cond-true, cond-false, both-ways, lt-ltb, le-ltb, ltb-true, and-parts, and-from, and-cases}
+use Rattle.std.proofs.shelf.Tests.{cases-bool, cases-eq, cases-lt, cond-true, cond-false, both-ways, lt-ltb, le-ltb, leb-true, ltb-true, and-parts, and-from, and-cases}
 use Rattle.std.proofs.shelf.Ways.{decides-and, not-from-decides}
 use lib.Dec.{ltb}
+use lib.ListN.{length, length-take, length-drop}
 use Rattle.layout.specs.declared.entry.Entry.{Entry}
-use Rattle.layout.specs.Files.{has-entries, entry-at, entry-if, content, has-name, find-from, find, found, entry-of, file}
+use Rattle.layout.specs.Files.{has-entries, has-entry, entry-bytes, entry-at, entry-if, content, has-name, find-from, find, found, entry-of, file}
 use Rattle.layout.specs.Words.{Named, First, NoFile}
 
 -- the test of an entry's name decides whether it is in use and has the name
@@ -138,3 +139,12 @@ lookup-none d x is =
     (λ there. sym (cond-true _ _ _ there ∙ cond-false _ _ _ (⊎-elim (λ no′. absurd (both-ways _ no′ there)) (λ e. e) (and-cases _ _ gone))))
     (λ no′. sym (cond-false _ _ _ no′))
     (cases-bool (has-entries d))
+
+-- an entry that is there has its 32 bytes
+pub length-entry-bytes : (d : List ℕ) (i : ℕ) → has-entry d i ≡ true → length (entry-bytes d i) ≡ 32
+unfolding entry-bytes
+length-entry-bytes d i there =
+    let parts = and-parts (has-entries d) (ltb i 16) there in
+    let long : 512 ≤ length d = leb-true 512 (length d) (parts .0) in
+    let lt : i < 16 = ltb-true i 16 (parts .1) in
+    simp (length-take, length-drop) (omega arith)

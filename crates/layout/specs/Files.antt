@@ -2,7 +2,8 @@
 use mathlib.Core.Path.{_≡_}
 use mathlib.Core.Bool.{Bool, cond, _&&_}
 use mathlib.Core.List.{List, _++_}
-use Prim.Native.Nat.{ℕ, zero, suc, _*_}
+use Prim.Native.Nat.{ℕ, zero, suc, _+_, _*_}
+use denote.Ref.{RefT}
 use lib.Dec.{leb, ltb}
 use lib.ListN.{length, take, drop}
 use Rattle.std.specs.Joined.{joined}
@@ -25,15 +26,28 @@ held k = k .bytes .now
 abbrev pub has-entries : List ℕ → Bool
 has-entries d = leb 512 (length d)
 
--- entry i: its 32 bytes, decoded
+-- the 32 bytes of entry i
+unfoldable pub entry-bytes : List ℕ → ℕ → List ℕ
+entry-bytes d i = take 32 (drop (32 * i) d)
+
+-- entry i, decoded
 unfoldable pub entry-at : List ℕ → ℕ → Entry
-entry-at d i = decoded (take 32 (drop (32 * i) d))
+entry-at d i = decoded (entry-bytes d i)
 
--- entry i, or none where there are not so many
+-- there is an entry i
+abbrev pub has-entry : List ℕ → ℕ → Bool
+has-entry d i = has-entries d && ltb i 16
+
+-- p is entry i as a part of the disk: it holds the entry's bytes, and lies where they do
+pub record EntryPart (disk : RefT (List ℕ)) (i : ℕ) (p : RefT (List ℕ)) : Type 0 where
+  pub bytes : p .now ≡ entry-bytes (disk .now) i
+  pub lies : p .ptr ≡ (disk .ptr .0, 32 * i + disk .ptr .1)
+
+-- entry i, or none
 abbrev pub entry-if : List ℕ → ℕ → Option Entry
-entry-if d i = cond (has-entries d && ltb i 16) (Some (entry-at d i)) None
+entry-if d i = cond (has-entry d i) (Some (entry-at d i)) None
 
--- block b: its 64 bytes
+-- the 64 bytes of block b
 unfoldable pub block : List ℕ → ℕ → List ℕ
 block d b = take 64 (drop (64 * b) d)
 
@@ -55,7 +69,7 @@ find d x = find-from d x 0 16
 
 -- the place of that entry, or none
 abbrev pub found : List ℕ → List ℕ → Option ℕ
-found d x = cond (has-entries d && ltb (find d x) 16) (Some (find d x)) None
+found d x = cond (has-entry d (find d x)) (Some (find d x)) None
 
 -- the entry that the old machine takes for the name x
 unfoldable pub entry-of : List ℕ → List ℕ → Option Entry

@@ -1,9 +1,10 @@
 // The disk's type: its limits, and what the old machine does with it.
 ghost use mathlib.Core.Path.{_≡_};
-ghost use mathlib.Core.Bool.{cond};
+ghost use mathlib.Core.Bool.{true, false, cond};
+ghost use Rattle.std.specs.Options.{Cases};
 ghost use Rattle.std.specs.declared.option.Option.the-variants.{None};
 ghost use Rattle.layout.specs.Entries.{needs};
-ghost use Rattle.layout.specs.Files.{has-entries, held, entry-if, block, content, find, found, entry-of, Copies};
+ghost use Rattle.layout.specs.Files.{has-entries, has-entry, held, EntryPart, entry-if, block, content, find, found, entry-of, Copies};
 ghost use Rattle.layout.specs.Words.{FewestBlocks, First, NoFile};
 use crate::entry::Entry;
 use crate::entry::array;
@@ -48,15 +49,23 @@ impl<'a> Disk<'a> {
         len.div_ceil(Disk::BLOCK)
     }
 
-    // Entry i, unless there are not so many or the disk is too short to hold them.
-    pub fn entry(&self, i: usize) -> Option<Entry>
-        ensures { λ r. ⌜ r ≡ entry-if (held (now (self .entry))) i ⌝ }
+    // The 32 bytes of entry i, as a part of the disk, unless there are not so many entries or the disk is too short to hold them.
+    pub fn entry_bytes(&self, i: usize) -> Option<&'a [u8]>
+        ensures { λ r. ⌜ Cases r (has-entry (held (now (self .entry))) i ≡ false) (λ p. (has-entry (held (now (self .entry))) i ≡ true) × EntryPart (now (self .entry) .bytes) i p) ⌝ }
     {
         if self.bytes.len() < Disk::ENTRIES * Disk::ENTRY || i >= Disk::ENTRIES {
             return None;
         }
         let at = i * Disk::ENTRY;
-        Some(Entry::decode(&array(&self.bytes[at..at + Disk::ENTRY])))
+        Some(&self.bytes[at..at + Disk::ENTRY])
+    }
+
+    // Entry i, where it is there.
+    pub fn entry(&self, i: usize) -> Option<Entry>
+        ensures { λ r. ⌜ r ≡ entry-if (held (now (self .entry))) i ⌝ }
+    {
+        let bytes = self.entry_bytes(i)?;
+        Some(Entry::decode(&array(bytes)))
     }
 
     // The place of the first entry that is in use and has the name.

@@ -1,0 +1,4 @@
+pub mod WordBits
+pub mod Membership
+pub mod Deciding
+pub mod Judging

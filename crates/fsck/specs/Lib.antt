@@ -1,0 +1,4 @@
+pub mod Sets
+pub mod Blocks
+pub mod Sound
+pub mod Rules

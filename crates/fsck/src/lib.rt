@@ -1,0 +1,3 @@
+// Sound disks, judged, and the blocks in use.
+pub mod block_set;
+pub mod judge;
