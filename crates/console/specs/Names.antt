@@ -11,6 +11,7 @@ use Rattle.std.specs.declared.option.Option.the-variants.{Some, None}
 use Rattle.std.specs.declared.result.Result.{Result}
 use Rattle.std.specs.declared.result.Result.the-variants.{Ok, Err}
 use Rattle.layout.specs.declared.name.Name.{Name}
+use Rattle.layout.specs.Entries.{as-name}
 use Rattle.console.specs.declared.escape.Escape.{Escape}
 use Rattle.console.specs.declared.escape.Escape.the-variants.{Plain, Slash, High, Low}
 
@@ -53,4 +54,4 @@ spelled s (b ∷ bs) = onward (λ t. spelled t bs) (step s b)
 
 -- the name of the bytes, filled up with blanks to eleven; or their number, where they are more
 abbrev pub name-or-length : List ℕ → Result Name ℕ
-name-or-length bs = cond (leb (length bs) 11) (Ok (record { bytes = bs ++ replicate (11 - length bs) 32 })) (Err (length bs))
+name-or-length bs = cond (leb (length bs) 11) (Ok (as-name (bs ++ replicate (11 - length bs) 32))) (Err (length bs))

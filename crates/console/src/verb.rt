@@ -5,7 +5,9 @@ ghost use Rattle.console.specs.Verbs.{verb};
 
 #[derive(Clone, Copy)]
 pub enum Verb {
+    Check,
     Disk,
+    Entry,
     List,
     Read,
 }
@@ -21,8 +23,14 @@ impl Verb {
     pub fn of(word: &[u8]) -> Option<Verb>
         ensures { λ r. ⌜ r ≡ verb (now (word .entry)) ⌝ }
     {
+        if is(word, b"check") {
+            return Some(Verb::Check);
+        }
         if is(word, b"disk") {
             return Some(Verb::Disk);
+        }
+        if is(word, b"entry") {
+            return Some(Verb::Entry);
         }
         if is(word, b"list") {
             return Some(Verb::List);

@@ -8,27 +8,21 @@ use console::verb::Verb;
 use console::words::split_line;
 use console::words::split_word;
 use console::words::trim;
+use fsck::judge::first_fault;
 use layout::disk::Disk;
-use layout::entry::Entry;
 use layout::name::Name;
+use reader::read::entry_of;
+use reader::read::read_file;
 use std::alloc::AllocError;
 use std::alloc::Global;
-
-// Why a line is refused.
-#[derive(Clone, Copy)]
-pub enum Refusal {
-    // The disk's size is none that a disk has.
-    Size,
-    // The name has more than eleven bytes: so many.
-    Name(usize),
-    // The text can't be read.
-    Text,
-}
+use update::answer::Done;
+use update::answer::Refusal;
 
 // What ends a command early.
 #[derive(Drop)]
 pub enum Fault {
-    Refused(Refusal),
+    // It is refused, and at which place.
+    Refused(Refusal, usize),
     Memory(AllocError),
 }
 
@@ -38,18 +32,12 @@ impl From<AllocError> for Fault as FaultFromAlloc {
     }
 }
 
-impl From<Refusal> for Fault as FaultFromRefusal {
-    fn from(r: Refusal) -> Fault {
-        Fault::Refused(r)
-    }
-}
-
 #[derive(Drop)]
 pub struct Session {
     heap: Global,
     disk: Vec<u8>,
     // How many lines were read.
-    line: u64,
+    line: usize,
     out: String,
 }
 
@@ -85,27 +73,27 @@ impl Session {
         }
         match self.obey(line) {
             Ok(()) => Ok(()),
-            Err(Fault::Refused(refusal)) => self.refuse(refusal),
+            Err(Fault::Refused(refusal, place)) => self.refuse(refusal, place),
             Err(Fault::Memory(e)) => Err(e),
         }
     }
 
-    fn refuse(&mut self, refusal: Refusal) -> Result<(), AllocError> {
-        let line = self.line;
-        let entries = Disk::ENTRIES;
-        let text = match refusal {
-            Refusal::Size => format!(self.heap, "refused 1 at {entries}\n")?,
-            Refusal::Name(length) => format!(self.heap, "refused 2 at {length}\n")?,
-            Refusal::Text => format!(self.heap, "refused 4 at {line}\n")?,
-        };
-        self.out.push_str(text.as_str())
+    fn refuse(&mut self, refusal: Refusal, place: usize) -> Result<(), AllocError> {
+        let number = refusal.number();
+        self.out.push_str(format!(self.heap, "refused {number} at {place}\n")?.as_str())
+    }
+
+    fn unreadable(&self) -> Fault {
+        Fault::Refused(Refusal::Unreadable, self.line)
     }
 
     fn obey(&mut self, line: &[u8]) -> Result<(), Fault> {
         let (word, rest) = split_word(line);
         match Verb::of(word) {
-            None => Err(Fault::Refused(Refusal::Text)),
+            None => Err(self.unreadable()),
+            Some(Verb::Check) => self.check(rest),
             Some(Verb::Disk) => self.make(rest),
+            Some(Verb::Entry) => self.entry(rest),
             Some(Verb::List) => self.list(rest),
             Some(Verb::Read) => self.read(rest),
         }
@@ -113,43 +101,73 @@ impl Session {
 
     // `disk N`: a new disk of N blocks, all zeros.
     fn make(&mut self, rest: &[u8]) -> Result<(), Fault> {
-        let blocks = parse_decimal(rest).ok_or(Refusal::Text)?;
+        let Some(blocks) = parse_decimal(rest) else {
+            return Err(self.unreadable());
+        };
         if blocks < Disk::LEAST as u64 || blocks > Disk::MOST as u64 {
-            return Err(Fault::Refused(Refusal::Size));
+            return Err(Fault::Refused(Refusal::Unsound, Disk::ENTRIES));
         }
         self.disk.clear();
         self.disk.resize(blocks as usize * Disk::BLOCK, 0)?;
         Ok(())
     }
 
-    // Before `disk` there are no blocks, and that is no disk.
-    fn judge(&self) -> Result<(), Refusal> {
-        if self.disk.is_empty() {
-            return Err(Refusal::Size);
+    // A disk that isn't sound is refused, at its first fault.
+    fn judge(&self) -> Result<(), Fault> {
+        match first_fault(self.disk.as_slice()) {
+            None => Ok(()),
+            Some(place) => Err(Fault::Refused(Refusal::Unsound, place)),
         }
+    }
+
+    // The command has no words besides its own.
+    fn alone(&self, rest: &[u8]) -> Result<(), Fault> {
+        if rest.is_empty() {
+            Ok(())
+        } else {
+            Err(self.unreadable())
+        }
+    }
+
+    // The name that the rest of a line spells.
+    fn name(&self, rest: &[u8]) -> Result<Name, Fault> {
+        if rest.is_empty() {
+            return Err(self.unreadable());
+        }
+        let Some(bytes) = unescape(self.heap, rest)? else {
+            return Err(self.unreadable());
+        };
+        match fill_name(bytes.as_slice()) {
+            Ok(name) => Ok(name),
+            Err(length) => Err(Fault::Refused(Refusal::BadName, length)),
+        }
+    }
+
+    // `check`: whether the disk is sound.
+    fn check(&mut self, rest: &[u8]) -> Result<(), Fault> {
+        self.judge()?;
+        self.alone(rest)?;
+        self.out.push_str("sound\n")?;
         Ok(())
     }
 
     // `list`: the name and the length of each file, in the order of entries.
     fn list(&mut self, rest: &[u8]) -> Result<(), Fault> {
         self.judge()?;
-        if !rest.is_empty() {
-            return Err(Fault::Refused(Refusal::Text));
-        }
+        self.alone(rest)?;
         for i in 0..Disk::ENTRIES {
             let entry = Disk::new(self.disk.as_slice()).entry(i);
             if let Some(entry) = entry
                 && entry.used
             {
-                self.show_entry(&entry)?;
+                self.show_file(&entry.name, usize::from(entry.len))?;
             }
         }
         Ok(())
     }
 
-    fn show_entry(&mut self, entry: &Entry) -> Result<(), AllocError> {
-        push_name(self.heap, &mut self.out, &entry.name)?;
-        let len = entry.len;
+    fn show_file(&mut self, name: &Name, len: usize) -> Result<(), AllocError> {
+        push_name(self.heap, &mut self.out, name)?;
         self.out.push_str(format!(self.heap, " {len}\n")?.as_str())
     }
 
@@ -157,27 +175,29 @@ impl Session {
     fn read(&mut self, rest: &[u8]) -> Result<(), Fault> {
         self.judge()?;
         let name = self.name(rest)?;
-        let Some(entry) = Disk::new(self.disk.as_slice()).lookup(&name) else {
-            self.out.push_str("none\n")?;
-            return Ok(());
-        };
         let mut room = Vec::new(self.heap);
-        room.resize(usize::from(entry.len), 0)?;
-        let copied = Disk::new(self.disk.as_slice()).copy_file(&entry, room.as_mut_slice());
-        room.truncate(copied.unwrap_or(0));
-        self.show_entry(&entry)?;
-        push_bytes(self.heap, &mut self.out, room.as_slice())?;
+        room.resize(Disk::LONGEST, 0)?;
+        match read_file(self.disk.as_slice(), &name.bytes, room.as_mut_slice()) {
+            Done::Read(len) => {
+                room.truncate(len);
+                self.show_file(&name, len)?;
+                push_bytes(self.heap, &mut self.out, room.as_slice())?;
+            }
+            _ => self.out.push_str("none\n")?,
+        }
         Ok(())
     }
 
-    fn name(&self, rest: &[u8]) -> Result<Name, Fault> {
-        if rest.is_empty() {
-            return Err(Fault::Refused(Refusal::Text));
+    // `entry NAME`: the 32 bytes of the file's entry, or `none`.
+    fn entry(&mut self, rest: &[u8]) -> Result<(), Fault> {
+        self.judge()?;
+        let name = self.name(rest)?;
+        let part = entry_of(self.disk.as_slice(), &name.bytes);
+        if part.is_empty() {
+            self.out.push_str("none\n")?;
+        } else {
+            push_bytes(self.heap, &mut self.out, part)?;
         }
-        let bytes = unescape(self.heap, rest)?.ok_or(Refusal::Text)?;
-        match fill_name(bytes.as_slice()) {
-            Ok(name) => Ok(name),
-            Err(length) => Err(Fault::Refused(Refusal::Name(length))),
-        }
+        Ok(())
     }
 }

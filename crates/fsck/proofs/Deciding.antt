@@ -11,7 +11,7 @@ use Rattle.std.specs.Orderings.{Decides}
 use Rattle.std.proofs.shelf.Tests.{cases-bool, cases-eq, cases-lt, both-ways, and-parts, and-from, or-parts, or-from, or-cases, or-left, or-right, not-true, not-from-false, le-leb, leb-true, lt-ltb, ltb-true, eq-eqb, eqb-true, eqb-false, ne-eqb}
 use Rattle.layout.specs.declared.name.Name.{Name}
 use Rattle.layout.specs.declared.entry.Entry.{Entry}
-use Rattle.layout.specs.Entries.{blocks-of}
+use Rattle.layout.specs.Entries.{as-name, blocks-of}
 use Rattle.layout.specs.Files.{entry-bytes, entry-at, find}
 use Rattle.layout.specs.Words.{First}
 use Rattle.layout.proofs.Finding.{find-first}
@@ -98,9 +98,6 @@ entry-decides d i =
           (cases-bool (e .used))),
     )
 
-name-of : List ℕ → Name
-name-of bs = record { bytes = bs }
-
 -- a place among the first n entries is one among more
 pub place-more : (d : List ℕ) (n i k : ℕ) → Place d n i k → Place d (suc n) i k
 place-more d n i k p = record { entry = omega (arith, p .entry); used = p .used; within = p .within }
@@ -160,7 +157,6 @@ module _ (d : List ℕ) (i : ℕ) (in-table : i < 16) where
 
   -- an entry of a sound disk is right
   pub sound-right : SoundTo d (suc i) → EntryRight d i
-  unfolding name-of
   sound-right s =
       let place : (k : ℕ) → Used d i → k < length (blocks-of (entry-at d i)) → Place d (suc i) i k = λ k used lt. record { entry = omega arith; used = used; within = lt } in
       record {
@@ -171,7 +167,7 @@ module _ (d : List ℕ) (i : ℕ) (in-table : i < 16) where
             let f = find-first d (x .bytes) in
             let at-most : find d (x .bytes) ≤ i = ⊎-elim (λ less. absurd (f .before i less (used, refl))) (λ le. le) (cases-lt i (find d (x .bytes))) in
             let named = f .here (omega arith) in
-            s .one-name (find d (x .bytes)) i (omega arith) (omega arith) (named .0) used (ap name-of (named .1));
+            s .one-name (find d (x .bytes)) i (omega arith) (omega arith) (named .0) used (ap as-name (named .1));
         fresh = λ used. record {
           low = λ k lt. s .from-8 i k (place k used lt);
           high = λ k lt. s .on-disk i k (place k used lt);

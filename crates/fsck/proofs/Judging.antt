@@ -8,14 +8,16 @@ use native.Mathlib.Nat.{add-zero, zero-add, add-suc, suc-add}
 use native.Mathlib.Omega.{arith}
 use lib.Dec.{eqb, leb, ltb}
 use lib.ListN.{length, getD, take, drop}
+use Rattle.std.specs.Options.{isSome}
+use Rattle.std.specs.declared.option.Option.{Option}
 use Rattle.std.specs.declared.option.Option.the-variants.{Some, None}
 use Rattle.std.proofs.shelf.Lists.{at-drop-more, take-more, getD-take, getD-drop}
-use Rattle.std.proofs.shelf.Tests.{cond-true, cond-false, both-ways, and-parts, and-from, and-left, and-right, not-from-true, not-from-false, le-leb, lt-leb, lt-ltb, le-ltb}
+use Rattle.std.proofs.shelf.Tests.{cases-bool, cond-true, cond-false, both-ways, and-parts, and-from, and-left, and-right, not-from-true, not-from-false, le-leb, lt-leb, lt-ltb, le-ltb}
 use Rattle.layout.specs.Entries.{blocks-of}
 use Rattle.layout.specs.Files.{entry-bytes, entry-at, find}
 use Rattle.fsck.specs.Blocks.{size, blocks-to, has}
-use Rattle.fsck.specs.Sound.{size-ok, block-ok, blocks-ok, entry-ok, sound-to, fault-from, first-fault}
-use Rattle.fsck.specs.Rules.{SoundTo, Judged}
+use Rattle.fsck.specs.Sound.{size-ok, block-ok, blocks-ok, entry-ok, sound-to, sound, fault-from, first-fault}
+use Rattle.fsck.specs.Rules.{SoundTo, Judged, TwinsFound}
 use Rattle.fsck.proofs.Membership.{has-append}
 use Rattle.fsck.proofs.Deciding.{sound-decides}
 
@@ -132,3 +134,27 @@ module _ (d : List ℕ) where
     sym (cond-true _ _ _ (sound-to-size d 16 is) ∙ fault-skip d 16 0 is ∙ fault-from-none d 16),
     sound-decides d 16 (omega arith) .0 is,
   )
+
+-- what is answered tells whether the disk is sound
+pub sound-from-none : (d : List ℕ) (o : Option ℕ) → Judged d o → isSome o ≡ false → sound d ≡ true
+unfolding sound
+sound-from-none d None s is = sound-decides d 16 (omega arith) .1 s
+sound-from-none d (Some p) j is = absurd (both-ways true is refl)
+
+pub unsound-from-some : (d : List ℕ) (o : Option ℕ) → o ≡ first-fault d → isSome o ≡ true → sound d ≡ false
+unfolding sound
+unsound-from-some d o is some =
+    ⊎-elim
+    (λ ok. absurd (both-ways false refl (ap isSome (fault-none d ok .0 ∙ sym is) ∙ some)))
+    (λ bad. bad)
+    (cases-bool (sound-to d 16))
+
+pub twins-found : (d : List ℕ) → TwinsFound d
+unfolding sound
+twins-found d t =
+    let apart : (n : ℕ) → 2 ≤ n → SoundTo d n → ⊥ = λ n le s. let one : _≡_ {A = ℕ} 0 1 = s .one-name 0 1 (omega arith) (omega arith) (t .used .0) (t .used .1) (t .named) in let none : ⊥ = omega arith in none in (
+      ⊎-elim (λ ok. absurd (apart 16 (omega arith) (sound-decides d 16 (omega arith) .0 ok))) (λ bad. bad) (cases-bool (sound-to d 16)),
+      λ first.
+          let second : entry-ok d 1 ≡ false = ⊎-elim (λ ok. absurd (apart 2 (omega arith) (sound-decides d 2 (omega arith) .0 (sound-to-more d 1 first ok)))) (λ bad. bad) (cases-bool (entry-ok d 1)) in
+          sym (fault-at d 1 (omega arith) first second .0),
+    )

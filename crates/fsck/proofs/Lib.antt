@@ -2,3 +2,5 @@ pub mod WordBits
 pub mod Membership
 pub mod Deciding
 pub mod Judging
+pub mod Contents
+pub mod Counting

@@ -1,6 +1,6 @@
 -- What a sound disk is, rule by rule. Assumes nothing.
 use mathlib.Core.Path.{_≡_}
-use mathlib.Core.Bool.{true}
+use mathlib.Core.Bool.{true, false}
 use mathlib.Core.List.{List}
 use Prim.Native.Nat.{ℕ, suc, _*_, _<_, _≤_}
 use lib.ListN.{length, getD}
@@ -10,6 +10,7 @@ use Rattle.layout.specs.declared.entry.Entry.{Entry}
 use Rattle.layout.specs.Entries.{blocks-of}
 use Rattle.layout.specs.Files.{entry-bytes, entry-at}
 use Rattle.fsck.specs.Blocks.{size}
+use Rattle.fsck.specs.Sound.{sound, sound-to, first-fault}
 
 -- entry i is in use
 abbrev pub Used : List ℕ → ℕ → Type 0
@@ -45,3 +46,11 @@ Sound d = SoundTo d 16
 abbrev pub Judged : List ℕ → Option ℕ → Type 0
 Judged d None = Sound d
 Judged d (Some p) = (p ≤ 16) × (p < 16 → SoundTo d p) × (p < 16 → SoundTo d (suc p) → ⊥) × (p ≡ 16 → SoundTo d 0 → ⊥)
+
+-- two entries in use with one name, the first of them without a fault: the disk isn't sound, at the second
+pub record Twins (d : List ℕ) : Type 0 where
+  pub used : Used d 0 × Used d 1
+  pub named : entry-at d 0 .name ≡ entry-at d 1 .name
+
+abbrev pub TwinsFound : List ℕ → Type 0
+TwinsFound d = Twins d → (sound d ≡ false) × (sound-to d 1 ≡ true → first-fault d ≡ Some 1)

@@ -5,11 +5,12 @@ ghost use Prim.Native.Nat.{ℕ, _<_, suc};
 ghost use lib.Dec.{eqb};
 ghost use lib.ListN.{length};
 ghost use Rattle.std.specs.Orderings.{Decides};
+ghost use Rattle.layout.specs.Entries.{blocks-of};
 ghost use Rattle.layout.specs.Files.{has-entries, has-entry, held, find};
 ghost use Rattle.fsck.specs.Sets.{member};
 ghost use Rattle.fsck.specs.Blocks.{blocks-to, has, size};
 ghost use Rattle.fsck.specs.Sound.{size-ok, block-ok, blocks-ok, entry-ok, sound, first-fault};
-ghost use Rattle.fsck.specs.Rules.{Sound, Judged};
+ghost use Rattle.fsck.specs.Rules.{Sound, Judged, TwinsFound};
 use crate::block_set::BlockSet;
 use layout::disk::Disk;
 use layout::entry::Entry;
@@ -56,6 +57,14 @@ fn take_blocks(blocks: &[u8], size: usize, taken: &mut BlockSet) -> bool
     true
 }
 
+// The same for the blocks of the entry's file.
+fn take_file(entry: &Entry, size: usize, taken: &mut BlockSet) -> bool
+    ensures value { λ r. ⌜ r ≡ blocks-ok size (member (now (taken .entry))) (blocks-of (now (entry .entry))) ⌝ }
+    ensures taken { λ r. ⌜ (r ≡ true → (k : ℕ) → member (now (taken .exit)) k ≡ (has (blocks-of (now (entry .entry))) k || member (now (taken .entry)) k)) ⌝ }
+{
+    take_blocks(entry.file_blocks(), size, taken)
+}
+
 // Whether entry i is the first in use with its name.
 fn is_first(disk: Disk<'_>, entry: &Entry, i: usize) -> bool
     requires { ⌜ has-entries (held disk) ≡ true ⌝ }
@@ -90,7 +99,7 @@ fn judge_entry(disk: &[u8], i: usize, taken: &mut BlockSet) -> bool
     if !is_first(view, &entry, i) {
         return false;
     }
-    take_blocks(entry.file_blocks(), disk.len() / Disk::BLOCK, taken)
+    take_file(&entry, disk.len() / Disk::BLOCK, taken)
 }
 
 // Nothing for a sound disk; else the first entry at which it isn't, judged against those before it, or sixteen where the size is wrong.
@@ -98,6 +107,7 @@ pub fn first_fault(disk: &[u8]) -> Option<usize>
     ensures value { λ r. ⌜ r ≡ first-fault (now (disk .entry)) ⌝ }
     ensures judged { λ r. ⌜ Judged (now (disk .entry)) r ⌝ }
     ensures agrees { λ _. ⌜ Decides (sound (now (disk .entry))) (Sound (now (disk .entry))) ⌝ }
+    ensures twins { λ _. ⌜ TwinsFound (now (disk .entry)) ⌝ }
 {
     if !has_size(disk) {
         return Some(Disk::ENTRIES);

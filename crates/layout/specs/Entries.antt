@@ -9,15 +9,19 @@ use Rattle.std.specs.declared.option.Option.the-variants.{Some, None}
 use Rattle.layout.specs.declared.name.Name.{Name}
 use Rattle.layout.specs.declared.entry.Entry.{Entry}
 
+-- these bytes as a name
+abbrev pub as-name : List ℕ → Name
+as-name bs = record { bytes = bs }
+
 -- a name is eleven bytes, whatever they are
 abbrev pub named : List ℕ → Option Name
-named bs = cond (eqb (length bs) 11) (Some (record { bytes = bs })) None
+named bs = cond (eqb (length bs) 11) (Some (as-name bs)) None
 
 -- byte 0 is 1 if the entry is in use; then eleven of a name, two of a length, the low one first, sixteen of block numbers, and two that are not read
 unfoldable pub decoded : List ℕ → Entry
 decoded bs = record {
   used = eqb (getD bs 0 0) 1;
-  name = record { bytes = take 11 (drop 1 bs) };
+  name = as-name (take 11 (drop 1 bs));
   len = getD bs 12 0 + 256 * getD bs 13 0;
   blocks = take 16 (drop 14 bs);
   unread = take 2 (drop 30 bs);

@@ -36,7 +36,7 @@ impl<'a> Disk<'a> {
     pub const FILE_BLOCKS: usize = Disk::LONGEST / Disk::BLOCK;
 
     pub fn new(bytes: &'a [u8]) -> Disk<'a>
-        ensures { λ r. ⌜ held r ≡ now (bytes .entry) ⌝ }
+        ensures { λ r. ⌜ r .bytes ≡ bytes .entry ⌝ }
     {
         Disk { bytes }
     }

@@ -9,7 +9,7 @@ use Rattle.fsck.specs.Sets.{member}
 use Rattle.fsck.specs.Blocks.{size, blocks-to, has}
 use Rattle.fsck.specs.Sound.{sound, sound-to}
 use Rattle.fsck.proofs.Deciding.{sound-decides}
-use Rattle.fsck.proofs.Judging.{sound-to-none, sound-to-more, fault-size, fault-at, fault-none}
+use Rattle.fsck.proofs.Judging.{sound-to-none, sound-to-more, fault-size, fault-at, fault-none, twins-found}
 use Rattle.fsck.proofs.judge.first_fault.Needs as need
 
 pub returns-then-not-has-size : need.returns-then-not-has-size
@@ -17,7 +17,7 @@ unfolding sound
 returns-then-not-has-size c =
     let d = c .args .disk .now in
     let r = fault-size d (sym (c .has-size .ensures) ∙ c .if-not-has-size .taken) in
-    record { value = r .0; judged = r .1; agrees = sound-decides d 16 (omega arith) }
+    record { value = r .0; judged = r .1; agrees = sound-decides d 16 (omega arith); twins = twins-found d }
 
 pub loop-i-holds : need.loop-i-holds
 unfolding blocks-to
@@ -36,7 +36,7 @@ unfolding sound
 returns-then-not-judge-entry c =
     let d = c .args .disk .now in
     let r = fault-at d (c .loop-i .i) (c .loop-i-test .taken) (c .loop-i .inv .0) (sym (c .judge-entry .ensures .value) ∙ c .if-not-judge-entry .taken) in
-    record { value = r .0; judged = r .1; agrees = sound-decides d 16 (omega arith) }
+    record { value = r .0; judged = r .1; agrees = sound-decides d 16 (omega arith); twins = twins-found d }
 
 pub loop-i-again : need.loop-i-again
 loop-i-again c =
@@ -54,4 +54,4 @@ returns c =
     let d = c .args .disk .now in
     let all : c .loop-i .i ≡ 16 = omega arith in
     let r = fault-none d (subst (λ n. sound-to d n ≡ true) all (c .loop-i .inv .0)) in
-    record { value = r .0; judged = r .1; agrees = sound-decides d 16 (omega arith) }
+    record { value = r .0; judged = r .1; agrees = sound-decides d 16 (omega arith); twins = twins-found d }

@@ -38,7 +38,7 @@ pub returns-then-not-entry : need.returns-then-not-entry
 returns-then-not-entry c =
     let d = c .args .disk .now in
     let i = c .args .i in
-    let same = seen d _ i (c .in-Some .entry) (c .new-view .ensures) (c .in-Some .ensures tt) in
+    let same = seen d _ i (c .in-Some .entry) (λ j. c .new-view .ensures j .now) (c .in-Some .ensures tt) in
     let unused = used-is d i (c .in-Some .entry) false same (c .if-not-entry .taken) in
     record { value = sym (entry-ok-unused d i (flag-is d i (c .if-disk-i-gt1 .left)) unused); taken = λ _ k. c .pre .taken k ∙ sym (has-blocks-to-unused d i k unused) }
 
@@ -46,7 +46,7 @@ pub returns-then-from-gt-LONGEST : need.returns-then-from-gt-LONGEST
 returns-then-from-gt-LONGEST c =
     let d = c .args .disk .now in
     let i = c .args .i in
-    let same = seen d _ i (c .in-Some .entry) (c .new-view .ensures) (c .in-Some .ensures tt) in
+    let same = seen d _ i (c .in-Some .entry) (λ j. c .new-view .ensures j .now) (c .in-Some .ensures tt) in
     let used = used-is d i (c .in-Some .entry) true same (c .if-not-entry .left) in
     let long : 1024 < entry-at d i .len = subst (λ (x : Entry). 1024 < x .len) same (subst (λ n. 1024 < n) (c .from .ensures) (c .if-from-gt-LONGEST .taken)) in
     record { value = sym (entry-ok-used d i (flag-is d i (c .if-disk-i-gt1 .left)) used ∙ and-left _ _ (lt-leb _ 1024 long)); taken = λ e. absurd (false≢true e) }
@@ -55,11 +55,11 @@ pub returns-then-not-is-first : need.returns-then-not-is-first
 returns-then-not-is-first c =
     let d = c .args .disk .now in
     let i = c .args .i in
-    let same = seen d _ i (c .in-Some .entry) (c .new-view .ensures) (c .in-Some .ensures tt) in
+    let same = seen d _ i (c .in-Some .entry) (λ j. c .new-view .ensures j .now) (c .in-Some .ensures tt) in
     let used = used-is d i (c .in-Some .entry) true same (c .if-not-entry .left) in
     let lt = ltb-true i 16 (and-parts _ _ (c .pre .there) .1) in
     let other : eqb (find d (entry-at d i .name .bytes)) i ≡ false =
-    sym (c .is-first .ensures lt ∙ (λ j. eqb (find (c .new-view .ensures j) (same j .name .bytes)) i)) ∙ c .if-not-is-first .taken in
+    sym (c .is-first .ensures lt ∙ (λ j. eqb (find (c .new-view .ensures j .now) (same j .name .bytes)) i)) ∙ c .if-not-is-first .taken in
     record {
       value = sym (entry-ok-used d i (flag-is d i (c .if-disk-i-gt1 .left)) used ∙ and-right (leb (entry-at d i .len) 1024) _ (and-left _ _ other));
       taken = λ e. absurd (false≢true e);
@@ -70,16 +70,16 @@ unfolding size
 returns c =
     let d = c .args .disk .now in
     let i = c .args .i in
-    let same = seen d _ i (c .in-Some .entry) (c .new-view .ensures) (c .in-Some .ensures tt) in
+    let same = seen d _ i (c .in-Some .entry) (λ j. c .new-view .ensures j .now) (c .in-Some .ensures tt) in
     let used = used-is d i (c .in-Some .entry) true same (c .if-not-entry .left) in
     let lt = ltb-true i 16 (and-parts _ _ (c .pre .there) .1) in
     let first : eqb (find d (entry-at d i .name .bytes)) i ≡ true =
-    sym (c .is-first .ensures lt ∙ (λ j. eqb (find (c .new-view .ensures j) (same j .name .bytes)) i)) ∙ c .if-not-is-first .left in
+    sym (c .is-first .ensures lt ∙ (λ j. eqb (find (c .new-view .ensures j .now) (same j .name .bytes)) i)) ∙ c .if-not-is-first .left in
     let short : leb (entry-at d i .len) 1024 ≡ true = le-leb _ 1024 (subst (λ (x : Entry). x .len ≤ 1024) same (subst (λ n. n ≤ 1024) (c .from .ensures) (c .if-from-gt-LONGEST .left))) in
-    let blocks : c .file-blocks .result .now ≡ blocks-of (entry-at d i) = c .file-blocks .ensures ∙ ap blocks-of same in
+    let blocks : blocks-of (c .in-Some .entry) ≡ blocks-of (entry-at d i) = ap blocks-of same in
     let taken : member (c .args .taken .now) ≡ has (blocks-to d i) = λ j k. c .pre .taken k j in
     record {
-      value = c .take-blocks .ensures .value ∙ (λ j. blocks-ok (size d) (taken j) (blocks j))
+      value = c .take-file .ensures .value ∙ (λ j. blocks-ok (size d) (taken j) (blocks j))
           ∙ (λ j. sym short j && (sym first j && blocks-ok (size d) (has (blocks-to d i)) (blocks-of (entry-at d i)))) ∙ sym (entry-ok-used d i (flag-is d i (c .if-disk-i-gt1 .left)) used);
-      taken = λ is k. c .take-blocks .ensures .taken is k ∙ (λ j. has (blocks j) k || taken j k) ∙ sym (has-blocks-to-used d i k used);
+      taken = λ is k. c .take-file .ensures .taken is k ∙ (λ j. has (blocks j) k || taken j k) ∙ sym (has-blocks-to-used d i k used);
     }
