@@ -7,13 +7,15 @@ use Rattle.std.specs.shelf.Text.{sameBytes}
 use Rattle.std.specs.declared.option.Option.{Option}
 use Rattle.std.specs.declared.option.Option.the-variants.{Some, None}
 use Rattle.console.specs.declared.verb.Verb.{Verb}
-use Rattle.console.specs.declared.verb.Verb.the-variants.{Check, Disk, Entry, List as Listing, Read}
+use Rattle.console.specs.declared.verb.Verb.the-variants.{Away, Check, Disk, Entry, List as Listing, Power, Read}
 
 abbrev pub verb : List ℕ → Option Verb
 verb w =
-    cond (sameBytes w (codes "check")) (Some Check)
+    cond (sameBytes w (codes "away")) (Some Away)
+    (cond (sameBytes w (codes "check")) (Some Check)
     (cond (sameBytes w (codes "disk")) (Some Disk)
     (cond (sameBytes w (codes "entry")) (Some Entry)
     (cond (sameBytes w (codes "list")) (Some Listing)
+    (cond (sameBytes w (codes "power")) (Some Power)
     (cond (sameBytes w (codes "read")) (Some Read)
-    None))))
+    None))))))

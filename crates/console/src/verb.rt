@@ -5,10 +5,12 @@ ghost use Rattle.console.specs.Verbs.{verb};
 
 #[derive(Clone, Copy)]
 pub enum Verb {
+    Away,
     Check,
     Disk,
     Entry,
     List,
+    Power,
     Read,
 }
 
@@ -23,6 +25,9 @@ impl Verb {
     pub fn of(word: &[u8]) -> Option<Verb>
         ensures { λ r. ⌜ r ≡ verb (now (word .entry)) ⌝ }
     {
+        if is(word, b"away") {
+            return Some(Verb::Away);
+        }
         if is(word, b"check") {
             return Some(Verb::Check);
         }
@@ -34,6 +39,9 @@ impl Verb {
         }
         if is(word, b"list") {
             return Some(Verb::List);
+        }
+        if is(word, b"power") {
+            return Some(Verb::Power);
         }
         if is(word, b"read") {
             return Some(Verb::Read);

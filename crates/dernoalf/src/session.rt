@@ -17,6 +17,8 @@ use std::alloc::AllocError;
 use std::alloc::Global;
 use update::answer::Done;
 use update::answer::Refusal;
+use update::request::Request;
+use update::request::perform;
 
 // What ends a command early.
 #[derive(Drop)]
@@ -36,6 +38,8 @@ impl From<AllocError> for Fault as FaultFromAlloc {
 pub struct Session {
     heap: Global,
     disk: Vec<u8>,
+    // For how many writes power lasts in the next request that writes, unless for all.
+    power: Option<u64>,
     // How many lines were read.
     line: usize,
     out: String,
@@ -46,6 +50,7 @@ impl Session {
         Session {
             heap,
             disk: Vec::new(heap),
+            power: None,
             line: 0,
             out: String::new(heap),
         }
@@ -91,10 +96,12 @@ impl Session {
         let (word, rest) = split_word(line);
         match Verb::of(word) {
             None => Err(self.unreadable()),
+            Some(Verb::Away) => self.away(rest),
             Some(Verb::Check) => self.check(rest),
             Some(Verb::Disk) => self.make(rest),
             Some(Verb::Entry) => self.entry(rest),
             Some(Verb::List) => self.list(rest),
+            Some(Verb::Power) => self.set_power(rest),
             Some(Verb::Read) => self.read(rest),
         }
     }
@@ -110,6 +117,38 @@ impl Session {
         self.disk.clear();
         self.disk.resize(blocks as usize * Disk::BLOCK, 0)?;
         Ok(())
+    }
+
+    // `power N`: the next request that writes has power for N writes.
+    fn set_power(&mut self, rest: &[u8]) -> Result<(), Fault> {
+        let Some(writes) = parse_decimal(rest) else {
+            return Err(self.unreadable());
+        };
+        self.power = Some(writes);
+        Ok(())
+    }
+
+    // `away NAME`: takes the file away.
+    fn away(&mut self, rest: &[u8]) -> Result<(), Fault> {
+        let lasts = self.power.take().unwrap_or(u64::MAX);
+        self.judge()?;
+        let name = self.name(rest)?;
+        let request = Request::Away {
+            name: &name.bytes,
+            lasts,
+        };
+        let answer = perform(self.disk.as_mut_slice(), request);
+        self.show_answer(answer)?;
+        Ok(())
+    }
+
+    fn show_answer(&mut self, answer: Done) -> Result<(), AllocError> {
+        let word = match answer {
+            Done::Finished => "done\n",
+            Done::Cut => "cut\n",
+            _ => "full\n",
+        };
+        self.out.push_str(word)
     }
 
     // A disk that isn't sound is refused, at its first fault.

@@ -4,3 +4,4 @@ pub mod Deciding
 pub mod Judging
 pub mod Contents
 pub mod Counting
+pub mod Agreement

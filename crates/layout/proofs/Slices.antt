@@ -6,7 +6,8 @@ use Prim.Native.Nat.{ℕ, zero, suc, _+_, _-_, min, _≤_, _<_}
 use native.Mathlib.Omega.{arith}
 use lib.ListN.{length, getD, take, drop, length-append, length-take, length-drop}
 use borrow.Rule.Slice.PartMut.{putMid}
-use Rattle.std.proofs.shelf.Lists.{drop-all, drop-drop, take-all, take-at, drop-at, length-take-le}
+use Rattle.std.proofs.shelf.Lists.{drop-all, drop-drop, drop-take, drop-append-le, take-all, take-take, take-append-le, take-at, drop-at, length-take-le}
+use Rattle.std.proofs.shelf.Parts.{drop-putMid}
 use Rattle.std.proofs.shelf.Tests.{cases-lt}
 use Rattle.layout.specs.Parts.{replaced}
 
@@ -58,3 +59,29 @@ unfolding replaced
 replaced-behind front rest p at n =
     (λ i. take-at front rest at n i ++ (p ++ (sym (drop-drop (length p) at (front ++ rest)) ∙ ap (drop (length p)) (drop-at front rest at n)) i))
     ∙ sym (append-assoc front p (drop (length p) rest))
+
+-- a part of a front
+pub part-of-front : (bs : List ℕ) (m from n : ℕ) → from + n ≤ m → take n (drop from (take m bs)) ≡ take n (drop from bs)
+part-of-front bs m from n h =
+    let split : m ≡ from + (m - from) = omega arith in
+    ap (λ k. take n (drop from (take k bs))) split ∙ ap (take n) (drop-take from (m - from) bs) ∙ take-take n (m - from) (drop from bs) (omega arith)
+
+-- a part of a part
+pub part-of-part : (bs : List ℕ) (a m from n : ℕ) → from + n ≤ m → take n (drop from (take m (drop a bs))) ≡ take n (drop (a + from) bs)
+part-of-part bs a m from n h = part-of-front (drop a bs) m from n h ∙ ap (take n) (drop-drop from a bs)
+
+-- a part that lies before, within or behind what was put in place of another
+pub part-before-replaced : (bs : List ℕ) (at : ℕ) (p : List ℕ) (from n : ℕ) → at + length p ≤ length bs → from + n ≤ at → take n (drop from (replaced bs at p)) ≡ take n (drop from bs)
+unfolding replaced
+part-before-replaced bs at p from n h before =
+    let within : from ≤ length (take at bs) = simp length-take (omega arith) in
+    let whole : n ≤ length (drop from (take at bs)) = simp (length-drop, length-take) (omega arith) in
+    ap (take n) (drop-append-le from (take at bs) _ within) ∙ take-append-le n (drop from (take at bs)) _ whole ∙ part-of-front bs at from n before
+
+pub part-replaced : (bs : List ℕ) (at : ℕ) (p : List ℕ) → at + length p ≤ length bs → take (length p) (drop at (replaced bs at p)) ≡ p
+unfolding replaced
+part-replaced bs at p h = ap (take (length p)) (drop-at (take at bs) _ at (length-take-le at bs (omega arith))) ∙ take-at p _ (length p) refl
+
+pub part-behind-replaced : (bs : List ℕ) (at : ℕ) (p : List ℕ) (from n : ℕ) → at + length p ≤ length bs → at + length p ≤ from → take n (drop from (replaced bs at p)) ≡ take n (drop from bs)
+part-behind-replaced bs at p from n h behind =
+    ap (λ t. take n (drop from t)) (sym (putMid-replaced at (length p) bs p p refl refl)) ∙ ap (take n) (drop-putMid at (length p) bs p from behind (omega arith) refl)

@@ -3,20 +3,28 @@ use mathlib.Core.Path.{_≡_, refl, sym, ap, _∙_}
 use mathlib.Core.Bool.{Bool, true, false, cond, _&&_}
 use mathlib.Core.List.{List}
 use mathlib.Core.Logic.{⊎-elim}
-use Prim.Native.Nat.{ℕ}
+use Prim.Native.Nat.{ℕ, _<_, _≤_}
 use native.Mathlib.Omega.{arith}
-use lib.Dec.{eqb}
+use lib.Dec.{eqb, ltb}
 use lib.ListN.{length}
 use Rattle.std.specs.Options.{okOr}
+use Rattle.std.specs.declared.option.Option.{Option}
 use Rattle.std.specs.declared.option.Option.the-variants.{Some, None}
 use Rattle.std.specs.declared.result.Result.{Result}
 use Rattle.std.specs.declared.result.Result.the-variants.{Ok, Err}
-use Rattle.std.proofs.shelf.Tests.{cond-true, cond-false, cases-bool, and-left, and-right}
+use Rattle.std.proofs.shelf.Tests.{cond-true, cond-false, cases-bool, cases-lt, both-ways, and-parts, and-left, and-right, ltb-true}
 use Rattle.layout.specs.declared.name.Name.{Name}
 use Rattle.layout.specs.Entries.{as-name, named}
+use Rattle.layout.specs.Files.{has-entry, has-entries, find, found}
+use Rattle.layout.proofs.Finding.{some-from-cond, none-from-cond}
 use Rattle.fsck.specs.Sound.{sound}
+use Rattle.fsck.proofs.Deciding.{sound-decides}
+use Rattle.fsck.proofs.Contents.{sound-entry}
 use Rattle.update.specs.declared.answer.Refusal.{Refusal}
-use Rattle.update.specs.declared.answer.Refusal.the-variants.{Unsound, BadName}
+use Rattle.update.specs.declared.answer.Refusal.the-variants.{Unsound, BadName, TooLong, Unreadable}
+use Rattle.update.specs.declared.answer.Done.the-variants.{Refused}
+use Rattle.update.specs.Requests.{Asked}
+use Rattle.update.specs.Said.{Says}
 use Rattle.update.specs.Answers.{number, good-name, ask-refusal, admitted}
 
 pub admitted-unsound : (d x : List ℕ) → sound d ≡ false → admitted d x ≡ Err Unsound
@@ -76,3 +84,28 @@ admitted-err d x q is =
     let reason : q ≡ Unsound = cc in
     record { unfit = and-left _ _ bad; why = cond-false _ _ _ bad ∙ ap number (sym reason) })
     (cases-bool (sound d))
+
+-- a refusal says its number, and leaves the disk as it was
+pub refused-says : (q : Refusal) (d : List ℕ) (a : Asked) (room : Bool) → Says (number q) d a room (Refused q) d
+refused-says Unsound d a room = (refl, refl)
+refused-says BadName d a room = (refl, refl)
+refused-says TooLong d a room = (refl, refl)
+refused-says Unreadable d a room = (refl, refl)
+
+-- the place of the name's entry, on a disk that was seen through a view
+module _ (d x v : List ℕ) (n : Name) (in′ : Admitted d x n) (same : v ≡ d) where
+  found-here : (o : Option ℕ) → o ≡ found v (n .bytes) → o ≡ found d x
+  found-here o is = is ∙ (λ j. found (same j) (in′ .name j .bytes))
+
+  pub found-place : (i : ℕ) → Some i ≡ found v (n .bytes) → (i ≡ find d x) × (find d x < 16)
+  found-place i is =
+      let known = some-from-cond (has-entry d (find d x)) i (find d x) (found-here (Some i) is) in
+      (known .1, ltb-true (find d x) 16 (and-parts (has-entries d) (ltb (find d x) 16) (known .0) .1))
+
+  pub found-nowhere : None ≡ found v (n .bytes) → 16 ≤ find d x
+  unfolding sound
+  found-nowhere is =
+      ⊎-elim
+      (λ lt. absurd (both-ways _ (none-from-cond _ _ (found-here None is)) (sound-entry d 16 (find d x) (sound-decides d 16 (omega arith) .0 (in′ .sound-disk)) lt)))
+      (λ ge. ge)
+      (cases-lt (find d x) 16)

@@ -1,1 +1,7 @@
 pub mod Admission
+pub mod Places
+pub mod DataLaw
+pub mod EntryLaw
+pub mod Sequences
+pub mod TakingAway
+pub mod Performing

@@ -1,3 +1,8 @@
-// Requests on a disk: what they answer, and when they are refused.
+// Requests on a disk: what they write, what they answer, and when they are refused.
 pub mod admit;
 pub mod answer;
+pub mod away;
+pub mod request;
+#[cfg(test)]
+mod tests;
+pub mod write;

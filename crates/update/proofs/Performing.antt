@@ -1,0 +1,70 @@
+-- Requests performed one after the other. Assumes nothing.
+use mathlib.Core.Path.{_≡_, refl, sym, ap, subst, _∙_}
+use mathlib.Core.Bool.{Bool, true, false, cond}
+use mathlib.Core.List.{List, [], _∷_}
+use mathlib.Core.Logic.{⊎-elim}
+use Prim.Native.Nat.{ℕ}
+use native.Mathlib.Omega.{arith}
+use Rattle.std.proofs.shelf.Tests.{cases-bool, cond-true, cond-false}
+use Rattle.fsck.specs.Sound.{sound}
+use Rattle.update.specs.declared.answer.Done.{Done}
+use Rattle.update.specs.Answers.{good-name, ask-refusal}
+use Rattle.update.specs.Asking.{refusal, roomy}
+use Rattle.update.specs.Requests.{Asked, away, writes, may, step, after}
+use Rattle.update.specs.Writes.{after-writes}
+use Rattle.update.specs.Said.{Says}
+use Rattle.update.proofs.Sequences.{Lawful, sound-step}
+use Rattle.update.proofs.TakingAway.{away-lawful}
+
+pub lawful : (d : List ℕ) (a : Asked) → Lawful d a
+lawful d (away x n) = away-lawful d x n
+
+ask-unsound : (d x : List ℕ) → sound d ≡ false → ask-refusal d x ≡ 1
+unfolding ask-refusal
+ask-unsound d x bad = cond-false _ _ _ bad
+
+ask-good : (d x : List ℕ) → sound d ≡ true → good-name x ≡ true → ask-refusal d x ≡ 0
+unfolding ask-refusal
+ask-good d x ok good = cond-true _ _ _ ok ∙ cond-true _ _ _ good
+
+ask-bad : (d x : List ℕ) → sound d ≡ true → good-name x ≡ false → ask-refusal d x ≡ 2
+unfolding ask-refusal
+ask-bad d x ok bad = cond-true _ _ _ ok ∙ cond-false _ _ _ bad
+
+step-idle : (d : List ℕ) (a : Asked) → may d a ≡ false → d ≡ step d a
+unfolding step
+step-idle d a idle = sym (cond-false _ _ _ idle)
+
+-- whatever a request answers, a sound disk is then the one that the definitions say
+pub says-step : (d : List ℕ) (a : Asked) (r : Done) (d₁ : List ℕ) → sound d ≡ true → Says (refusal d a) d a (roomy d a) r d₁ → d₁ ≡ step d a
+unfolding may
+says-step d (away x n) r d₁ ok says =
+    ⊎-elim
+    (λ good. subst (λ k. Says k d (away x n) true r d₁) (ask-good d x ok good) says .0)
+    (λ bad. subst (λ k. Says k d (away x n) true r d₁) (ask-bad d x ok bad) says .1 ∙ step-idle d (away x n) bad)
+    (cases-bool (good-name x))
+
+-- and one that isn't sound is as it was
+pub says-unsound : (d : List ℕ) (a : Asked) (r : Done) (d₁ : List ℕ) → sound d ≡ false → Says (refusal d a) d a (roomy d a) r d₁ → d₁ ≡ d
+says-unsound d (away x n) r d₁ bad says = subst (λ k. Says k d (away x n) true r d₁) (ask-unsound d x bad) says .1
+
+-- some requests were performed, and these are left
+pub record Sofar (d : List ℕ) (rs : List Asked) (now : List ℕ) (left : List Asked) : Type 0 where
+  pub still : sound d ≡ true → sound now ≡ true
+  pub rest : sound d ≡ true → after now left ≡ after d rs
+  pub untouched : sound d ≡ false → now ≡ d
+
+pub sofar-none : (d : List ℕ) (rs : List Asked) → Sofar d rs d rs
+sofar-none d rs = record { still = λ ok. ok; rest = λ ok. refl; untouched = λ bad. refl }
+
+pub sofar-more : (d : List ℕ) (rs : List Asked) (now : List ℕ) (a : Asked) (left : List Asked) (r : Done) (next : List ℕ) → Sofar d rs now (a ∷ left) → Says (refusal now a) now a (roomy now a) r next → Sofar d rs next left
+unfolding after
+sofar-more d rs now a left r next so-far says = record {
+  still = λ ok. ap sound (says-step now a r next (so-far .still ok) says) ∙ sound-step now a (lawful now a) (so-far .still ok);
+  rest = λ ok. ap (λ e. after e left) (says-step now a r next (so-far .still ok) says) ∙ so-far .rest ok;
+  untouched = λ bad. says-unsound now a r next (ap sound (so-far .untouched bad) ∙ bad) says ∙ so-far .untouched bad;
+}
+
+pub after-no-more : (d : List ℕ) → after d [] ≡ d
+unfolding after
+after-no-more d = refl

@@ -1,0 +1,60 @@
+// A write of one block, while power lasts.
+ghost use mathlib.Core.Path.{_≡_};
+ghost use mathlib.Core.Bool.{cond};
+ghost use Prim.Native.Nat.{_+_, _*_, _-_, _≤_, _<_};
+ghost use lib.Dec.{ltb};
+ghost use lib.ListN.{length};
+ghost use Rattle.layout.specs.Files.{block};
+ghost use Rattle.layout.specs.Parts.{replaced};
+ghost use Rattle.update.specs.Writes.{after-write, entry-write};
+use layout::disk::Disk;
+
+// Fills a part of the disk with these bytes.
+fn fill(part: &mut [u8], bytes: &[u8; Disk::BLOCK])
+    requires { ⌜ length (now part) ≡ 64 ⌝ }
+    ensures { λ _. ⌜ now (part .exit) ≡ now (bytes .entry) ⌝ }
+{
+    part.copy_from_slice(bytes);
+}
+
+// Puts the bytes into the block, all of them, and changes nothing else.
+pub(crate) fn write_block(disk: &mut [u8], block: usize, bytes: &[u8; Disk::BLOCK])
+    requires { ⌜ 64 * block + 64 ≤ length (now disk) ⌝ }
+    ensures { λ _. ⌜ now (disk .exit) ≡ after-write (now (disk .entry)) (record { to = block; bytes = now (bytes .entry) }) ⌝ }
+{
+    let at = block * Disk::BLOCK;
+    fill(&mut disk[at..at + Disk::BLOCK], bytes);
+}
+
+// The same while power lasts, which then lasts for one write less; false, and nothing written, once it has failed.
+pub(crate) fn write_powered(
+    disk: &mut [u8],
+    block: usize,
+    bytes: &[u8; Disk::BLOCK],
+    power: &mut u64,
+) -> bool
+    requires { ⌜ 64 * block + 64 ≤ length (now disk) ⌝ }
+    ensures made { λ r. ⌜ r ≡ ltb 0 (now (power .entry)) ⌝ }
+    ensures power { λ _. ⌜ now (power .exit) ≡ now (power .entry) - 1 ⌝ }
+    ensures disk { λ r. ⌜ now (disk .exit) ≡ cond r (after-write (now (disk .entry)) (record { to = block; bytes = now (bytes .entry) })) (now (disk .entry)) ⌝ }
+{
+    if *power == 0 {
+        return false;
+    }
+    *power -= 1;
+    write_block(disk, block, bytes);
+    true
+}
+
+// The block that has entry i, with these bytes in the entry's place and the other entry as it is.
+pub(crate) fn entry_block(disk: &[u8], i: usize, entry: &[u8; Disk::ENTRY]) -> [u8; Disk::BLOCK]
+    requires { ⌜ (512 ≤ length (now disk)) × (i < 16) ⌝ }
+    ensures { λ r. ⌜ r ≡ entry-write (now (disk .entry)) i (now (entry .entry)) .bytes ⌝ }
+{
+    let at = i / 2 * Disk::BLOCK;
+    let mut bytes = [0; Disk::BLOCK];
+    bytes.copy_from_slice(&disk[at..at + Disk::BLOCK]);
+    let half = i % 2 * Disk::ENTRY;
+    bytes[half..half + Disk::ENTRY].copy_from_slice(entry);
+    bytes
+}
