@@ -4,4 +4,10 @@ pub mod DataLaw
 pub mod EntryLaw
 pub mod Sequences
 pub mod TakingAway
+pub mod Choosing
+pub mod DataWrites
+pub mod NewFile
+pub mod PlanWrites
+pub mod PuttingLaw
+pub mod Counted
 pub mod Performing

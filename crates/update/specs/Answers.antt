@@ -3,7 +3,7 @@ use mathlib.Core.Path.{_≡_}
 use mathlib.Core.Bool.{Bool, cond, _&&_}
 use mathlib.Core.List.{List}
 use Prim.Native.Nat.{ℕ}
-use lib.Dec.{eqb}
+use lib.Dec.{eqb, leb}
 use lib.ListN.{length}
 use Rattle.std.specs.declared.result.Result.{Result}
 use Rattle.std.specs.declared.result.Result.the-variants.{Ok, Err}
@@ -48,6 +48,10 @@ good-name x = eqb (length x) 11
 -- the number with which a request on a name is refused, or 0: the disk is judged first
 unfoldable pub ask-refusal : (disk name : List ℕ) → ℕ
 ask-refusal d x = cond (sound d) (cond (good-name x) 0 (number BadName)) (number Unsound)
+
+-- the number with which putting is refused, or 0: after the disk and the name, the file's length
+unfoldable pub put-refusal : (disk name content : List ℕ) → ℕ
+put-refusal d x c = cond (sound d) (cond (good-name x) (cond (leb (length c) 1024) 0 (number TooLong)) (number BadName)) (number Unsound)
 
 -- the name of a request that isn't refused, or why it is
 unfoldable pub admitted : (disk name : List ℕ) → Result Name Refusal

@@ -3,17 +3,21 @@ use mathlib.Core.Bool.{Bool, true}
 use mathlib.Core.List.{List}
 use Prim.Native.Nat.{ℕ}
 use Rattle.update.specs.declared.request.Request.{Request}
-use Rattle.update.specs.declared.request.Request.the-variants.{Away}
-use Rattle.update.specs.Answers.{ask-refusal}
-use Rattle.update.specs.Requests.{Asked, away}
+use Rattle.update.specs.declared.request.Request.the-variants.{Put, Away}
+use Rattle.update.specs.Answers.{ask-refusal, put-refusal}
+use Rattle.update.specs.Putting.{room-for}
+use Rattle.update.specs.Requests.{Asked, put, away}
 
 abbrev pub asked : Request → Asked
+asked (Put x c n) = put (x .now) (c .now) n
 asked (Away x n) = away (x .now) n
 
 -- the number with which the request is refused, or 0
 abbrev pub refusal : List ℕ → Asked → ℕ
+refusal d (put x c n) = put-refusal d x c
 refusal d (away x n) = ask-refusal d x
 
 -- whether there is room for it
 abbrev pub roomy : List ℕ → Asked → Bool
+roomy d (put x c n) = room-for d x c
 roomy d (away x n) = true

@@ -1,6 +1,9 @@
 pub mod Answers
 pub mod Writes
+pub mod Putting
+pub mod Plans
 pub mod Requests
 pub mod Promise
+pub mod Room
 pub mod Said
 pub mod Asking

@@ -5,9 +5,11 @@ use mathlib.Core.List.{List, [], _∷_, _++_}
 use Prim.Native.Nat.{ℕ, _<_, _≤_}
 use lib.ListN.{length}
 use Rattle.layout.specs.Files.{file}
+use Rattle.fsck.specs.Blocks.{free}
 use Rattle.fsck.specs.Sound.{sound}
 use Rattle.update.specs.Writes.{after-writes}
-use Rattle.update.specs.Requests.{Asked, writes, may, after, changed, should}
+use Rattle.update.specs.Putting.{put-writes}
+use Rattle.update.specs.Requests.{Asked, put, writes, may, after, changed, should}
 
 -- THE PROMISE. Whatever is asked of a sound disk, one request after the other, and wherever power fails, the disk is sound afterwards, and under every name the old machine reads the file of what was done, or none
 pub record AsDone (d : List ℕ) (rs : List Asked) (d₁ : List ℕ) : Type 0 where
@@ -28,3 +30,7 @@ AllOrNothing d a =
 -- a request has at most seventeen writes
 abbrev pub FewWrites : List ℕ → Asked → Type 0
 FewWrites d a = may d a ≡ true → length (writes d a) ≤ 17
+
+-- what was cut off keeps no room
+abbrev pub RoomBack : (disk name content : List ℕ) → Type 0
+RoomBack d x c = sound d ≡ true → (m : ℕ) → may d (put x c m) ≡ true → (n : ℕ) → n < length (put-writes d x c) → free (after-writes n d (put-writes d x c)) ≡ free d

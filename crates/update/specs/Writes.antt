@@ -3,11 +3,8 @@ use mathlib.Core.List.{List, [], _∷_}
 use Prim.Native.Nat.{ℕ, zero, suc, _*_, _/_, _%_}
 use Rattle.layout.specs.Parts.{replaced}
 use Rattle.layout.specs.Files.{block}
-
--- a write puts 64 bytes into one block, all of them or none
-pub record Write : Type 0 where
-  pub to : ℕ
-  pub bytes : List ℕ
+-- a write puts 64 bytes into one block, all of them or none: the code's own type, with the block's number `to` and the `bytes`
+pub use Rattle.update.specs.declared.write.Write.{Write}
 
 -- the disk after a write
 unfoldable pub after-write : List ℕ → Write → List ℕ

@@ -2,6 +2,8 @@
 pub mod admit;
 pub mod answer;
 pub mod away;
+pub mod choose;
+pub mod put;
 pub mod request;
 #[cfg(test)]
 mod tests;

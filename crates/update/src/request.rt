@@ -9,11 +9,21 @@ ghost use Rattle.update.specs.Promise.{AllOrNothing, FewWrites, AsDone, AsDone
 ghost use Rattle.update.specs.Said.{Says, AllSays};
 use crate::answer::Done;
 use crate::away::take_away;
+use crate::put::put_file;
 
 #[derive(Clone, Copy)]
 pub enum Request<'a> {
-    // The file of this name is to be taken away, with power for so many writes.
-    Away { name: &'a [u8], lasts: u64 },
+    // The bytes are to be put under this name, with power for so many writes.
+    Put {
+        name: &'a [u8],
+        content: &'a [u8],
+        lasts: u64,
+    },
+    // The file of this name is to be taken away.
+    Away {
+        name: &'a [u8],
+        lasts: u64,
+    },
 }
 
 // Performs the request. It is refused, with nothing changed, where the call beneath it would be.
@@ -24,6 +34,11 @@ pub fn perform(disk: &mut [u8], request: Request<'_>) -> Done
     ensures few { λ _. ⌜ FewWrites (now (disk .entry)) (asked (request .entry)) ⌝ }
 {
     match request {
+        Request::Put {
+            name,
+            content,
+            lasts,
+        } => put_file(disk, name, content, lasts),
         Request::Away { name, lasts } => take_away(disk, name, lasts),
     }
 }

@@ -9,6 +9,13 @@ ghost use Rattle.layout.specs.Parts.{replaced};
 ghost use Rattle.update.specs.Writes.{after-write, entry-write};
 use layout::disk::Disk;
 
+// A write puts these bytes into the block of this number, all of them or none.
+#[derive(Clone, Copy)]
+pub struct Write {
+    pub to: usize,
+    pub bytes: [u8; Disk::BLOCK],
+}
+
 // Fills a part of the disk with these bytes.
 fn fill(part: &mut [u8], bytes: &[u8; Disk::BLOCK])
     requires { ⌜ length (now part) ≡ 64 ⌝ }

@@ -7,7 +7,7 @@ use Rattle.std.proofs.shelf.Lists.{at-drop-more, at-drop-all}
 use Rattle.layout.specs.Files.{file}
 use Rattle.fsck.specs.Sound.{sound}
 use Rattle.update.specs.declared.request.Request.{Request}
-use Rattle.update.specs.declared.request.Request.the-variants.{Away}
+use Rattle.update.specs.declared.request.Request.the-variants.{Put}
 use Rattle.update.specs.Asking.{asked}
 use Rattle.update.specs.Requests.{Asked, after}
 use Rattle.update.proofs.Sequences.{as-done}
@@ -16,7 +16,7 @@ use Rattle.update.proofs.request.perform_all.Needs as need
 
 -- what stands at a place past the end
 nothing : Request
-nothing = Away (record { ptr = (0, 0); name = 0; now = [] }) 0
+nothing = Put (record { ptr = (0, 0); name = 0; now = [] }) (record { ptr = (0, 0); name = 0; now = [] }) 0
 
 pub loop-request-again : need.loop-request-again
 unfolding nothing
