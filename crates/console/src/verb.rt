@@ -10,7 +10,9 @@ pub enum Verb {
     Disk,
     Entry,
     List,
+    Map,
     Power,
+    Put,
     Read,
 }
 
@@ -40,8 +42,14 @@ impl Verb {
         if is(word, b"list") {
             return Some(Verb::List);
         }
+        if is(word, b"map") {
+            return Some(Verb::Map);
+        }
         if is(word, b"power") {
             return Some(Verb::Power);
+        }
+        if is(word, b"put") {
+            return Some(Verb::Put);
         }
         if is(word, b"read") {
             return Some(Verb::Read);

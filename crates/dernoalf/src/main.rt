@@ -1,4 +1,5 @@
 // The program: the command text from standard input, over a disk in memory.
+mod bytes;
 mod session;
 mod show;
 

@@ -1,4 +1,6 @@
 // A run over the lines of a command text: the disk, and what is to be printed.
+use crate::bytes::push_line;
+use crate::show::block_map;
 use crate::show::push_bytes;
 use crate::show::push_name;
 use console::escape::fill_name;
@@ -34,12 +36,23 @@ impl From<AllocError> for Fault as FaultFromAlloc {
     }
 }
 
+// A `put` whose lines of bytes are being read.
+#[derive(Drop)]
+struct Pending {
+    name: Result<Name, (Refusal, usize)>,
+    lasts: u64,
+    bytes: Vec<u8>,
+    // The first line that is no line of bytes.
+    bad: Option<usize>,
+}
+
 #[derive(Drop)]
 pub struct Session {
     heap: Global,
     disk: Vec<u8>,
     // For how many writes power lasts in the next request that writes, unless for all.
     power: Option<u64>,
+    pending: Option<Pending>,
     // How many lines were read.
     line: usize,
     out: String,
@@ -51,6 +64,7 @@ impl Session {
             heap,
             disk: Vec::new(heap),
             power: None,
+            pending: None,
             line: 0,
             out: String::new(heap),
         }
@@ -69,18 +83,54 @@ impl Session {
             self.line = self.line.saturating_add(1);
             rest = behind;
         }
-        Ok(())
+        self.finish()
     }
 
     fn run_line(&mut self, line: &[u8]) -> Result<(), AllocError> {
         if line.is_empty() || line[0] == b'#' {
             return Ok(());
         }
-        match self.obey(line) {
+        let (word, rest) = split_word(line);
+        match Verb::of(word) {
+            Some(verb) => {
+                self.finish()?;
+                let answer = self.obey(verb, rest);
+                self.settle(answer)
+            }
+            None => self.feed(line),
+        }
+    }
+
+    // Prints why a command was refused, if it was.
+    fn settle(&mut self, answer: Result<(), Fault>) -> Result<(), AllocError> {
+        match answer {
             Ok(()) => Ok(()),
             Err(Fault::Refused(refusal, place)) => self.refuse(refusal, place),
             Err(Fault::Memory(e)) => Err(e),
         }
+    }
+
+    // A line that begins with no command's word belongs to a `put` before it.
+    fn feed(&mut self, line: &[u8]) -> Result<(), AllocError> {
+        let at = self.line;
+        match &mut self.pending {
+            None => self.refuse(Refusal::Unreadable, at),
+            Some(pending) => {
+                if pending.bad.is_none() && !push_line(&mut pending.bytes, line)? {
+                    pending.bad = Some(at);
+                }
+                Ok(())
+            }
+        }
+    }
+
+    // Puts the file whose lines have all been read, if there is one.
+    fn finish(&mut self) -> Result<(), AllocError> {
+        let Some(pending) = self.pending.take() else {
+            return Ok(());
+        };
+        let answer = self.put(pending);
+        self.settle(answer)
     }
 
     fn refuse(&mut self, refusal: Refusal, place: usize) -> Result<(), AllocError> {
@@ -92,17 +142,17 @@ impl Session {
         Fault::Refused(Refusal::Unreadable, self.line)
     }
 
-    fn obey(&mut self, line: &[u8]) -> Result<(), Fault> {
-        let (word, rest) = split_word(line);
-        match Verb::of(word) {
-            None => Err(self.unreadable()),
-            Some(Verb::Away) => self.away(rest),
-            Some(Verb::Check) => self.check(rest),
-            Some(Verb::Disk) => self.make(rest),
-            Some(Verb::Entry) => self.entry(rest),
-            Some(Verb::List) => self.list(rest),
-            Some(Verb::Power) => self.set_power(rest),
-            Some(Verb::Read) => self.read(rest),
+    fn obey(&mut self, verb: Verb, rest: &[u8]) -> Result<(), Fault> {
+        match verb {
+            Verb::Away => self.away(rest),
+            Verb::Check => self.check(rest),
+            Verb::Disk => self.make(rest),
+            Verb::Entry => self.entry(rest),
+            Verb::List => self.list(rest),
+            Verb::Map => self.map(rest),
+            Verb::Power => self.set_power(rest),
+            Verb::Put => self.begin_put(rest),
+            Verb::Read => self.read(rest),
         }
     }
 
@@ -125,6 +175,61 @@ impl Session {
             return Err(self.unreadable());
         };
         self.power = Some(writes);
+        Ok(())
+    }
+
+    // `put NAME`: the lines of bytes follow.
+    fn begin_put(&mut self, rest: &[u8]) -> Result<(), Fault> {
+        let lasts = self.power.take().unwrap_or(u64::MAX);
+        let name = match self.name(rest) {
+            Ok(name) => Ok(name),
+            Err(Fault::Refused(refusal, place)) => Err((refusal, place)),
+            Err(Fault::Memory(e)) => return Err(Fault::Memory(e)),
+        };
+        self.pending = Some(Pending {
+            name,
+            lasts,
+            bytes: Vec::new(self.heap),
+            bad: None,
+        });
+        Ok(())
+    }
+
+    // Puts the file, once its lines have been read.
+    fn put(&mut self, pending: Pending) -> Result<(), Fault> {
+        let Pending {
+            name,
+            lasts,
+            bytes,
+            bad,
+        } = pending;
+        self.judge()?;
+        let name = match name {
+            Ok(name) => name,
+            Err((refusal, place)) => return Err(Fault::Refused(refusal, place)),
+        };
+        if let Some(line) = bad {
+            return Err(Fault::Refused(Refusal::Unreadable, line));
+        }
+        if bytes.len() > Disk::LONGEST {
+            return Err(Fault::Refused(Refusal::TooLong, bytes.len()));
+        }
+        let request = Request::Put {
+            name: &name.bytes,
+            content: bytes.as_slice(),
+            lasts,
+        };
+        let answer = perform(self.disk.as_mut_slice(), request);
+        self.show_answer(answer)?;
+        Ok(())
+    }
+
+    // `map`: a character for each block.
+    fn map(&mut self, rest: &[u8]) -> Result<(), Fault> {
+        self.judge()?;
+        self.alone(rest)?;
+        let map = block_map(self.heap, self.disk.as_slice())?;
+        self.out.push_str(map.as_str())?;
         Ok(())
     }
 
