@@ -1,9 +1,9 @@
 // The program: the command text from standard input, over a disk in memory.
 mod bytes;
-mod session;
+mod interpreter;
 mod show;
 
-use session::Session;
+use interpreter::Interpreter;
 use std::error::AnyError;
 use std::io::Read;
 use std::io::Write;
@@ -11,9 +11,9 @@ use std::io::Write;
 fn run(rt: &LibcRuntime) -> Result<(), AnyError> {
     let mut text = Vec::new(rt.alloc());
     rt.stdin().read_to_end(&mut text)?;
-    let mut session = Session::new(rt.alloc());
-    session.run(text.as_slice())?;
-    rt.stdout().write_all(session.output().as_bytes())?;
+    let mut interpreter = Interpreter::new(rt.alloc());
+    interpreter.run(text.as_slice())?;
+    rt.stdout().write_all(interpreter.output().as_bytes())?;
     Ok(())
 }
 

@@ -47,7 +47,7 @@ struct Pending {
 }
 
 #[derive(Drop)]
-pub struct Session {
+pub struct Interpreter {
     heap: Global,
     disk: Vec<u8>,
     // For how many writes power lasts in the next request that writes, unless for all.
@@ -58,9 +58,9 @@ pub struct Session {
     out: String,
 }
 
-impl Session {
-    pub fn new(heap: Global) -> Session {
-        Session {
+impl Interpreter {
+    pub fn new(heap: Global) -> Interpreter {
+        Interpreter {
             heap,
             disk: Vec::new(heap),
             power: None,

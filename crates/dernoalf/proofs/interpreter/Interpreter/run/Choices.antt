@@ -1,5 +1,5 @@
 use lib.ListN.{length}
-use Rattle.dernoalf.proofs.session.Session.run.Given as given
+use Rattle.dernoalf.proofs.interpreter.Interpreter.run.Given as given
 
 abbrev pub μ-loop-rest : given.MeasureT-loop-rest
 μ-loop-rest l = length (l .rest)
