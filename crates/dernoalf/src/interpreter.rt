@@ -211,17 +211,14 @@ impl Interpreter {
         if let Some(line) = bad {
             return Err(Fault::Refused(Refusal::Unreadable, line));
         }
-        if bytes.len() > Disk::LONGEST {
-            return Err(Fault::Refused(Refusal::TooLong, bytes.len()));
-        }
+        let len = bytes.len();
         let request = Request::Put {
             name: &name.bytes,
             content: bytes.as_slice(),
             lasts,
         };
         let answer = perform(self.disk.as_mut_slice(), request);
-        self.show_answer(answer)?;
-        Ok(())
+        self.show_answer(answer, len)
     }
 
     // `map`: a character for each block.
@@ -243,17 +240,21 @@ impl Interpreter {
             lasts,
         };
         let answer = perform(self.disk.as_mut_slice(), request);
-        self.show_answer(answer)?;
-        Ok(())
+        self.show_answer(answer, Name::SIZE)
     }
 
-    fn show_answer(&mut self, answer: Done) -> Result<(), AllocError> {
+    // The word for what came of a request; a refusal is of the length that was asked for.
+    fn show_answer(&mut self, answer: Done, len: usize) -> Result<(), Fault> {
         let word = match answer {
             Done::Finished => "done\n",
             Done::Cut => "cut\n",
-            _ => "full\n",
+            Done::Full => "full\n",
+            // Answers to a read, which no request that writes gives.
+            Done::Absent | Done::Short(_) | Done::Read(_) => "none\n",
+            Done::Refused(refusal) => return Err(Fault::Refused(refusal, len)),
         };
-        self.out.push_str(word)
+        self.out.push_str(word)?;
+        Ok(())
     }
 
     // A disk that isn't sound is refused, at its first fault.

@@ -10,7 +10,7 @@ use Rattle.std.proofs.shelf.Tests.{and-from, le-leb, lt-ltb}
 use Rattle.layout.specs.declared.entry.Entry.{Entry}
 use Rattle.layout.specs.Entries.{decoded, needs, blocks-of}
 use Rattle.layout.specs.Files.{has-entry, entry-bytes, entry-at, block, content}
-use Rattle.layout.proofs.Finding.{length-entry-bytes}
+use Rattle.layout.proofs.Finding.{length-entry-bytes, length-block}
 use Rattle.fsck.specs.Blocks.{size}
 use Rattle.fsck.specs.Rules.{Used, Place, block-of, SoundTo, Sound}
 
@@ -19,11 +19,6 @@ sound-long d n s = omega (arith, s .whole, s .least)
 
 pub sound-entry : (d : List ℕ) (n i : ℕ) → SoundTo d n → i < 16 → has-entry d i ≡ true
 sound-entry d n i s lt = and-from _ _ (le-leb 512 (length d) (omega (arith, sound-long d n s))) (lt-ltb i 16 lt)
-
--- a block on the disk is whole
-pub length-block : (d : List ℕ) (n b : ℕ) → SoundTo d n → b < size d → length (block d b) ≡ 64
-unfolding block
-length-block d n b s lt = simp (length-take, length-drop) (omega (arith, s .whole))
 
 pub length-joined : (f : ℕ → List ℕ) (bs : List ℕ) → ((k : ℕ) → k < length bs → length (f (getD bs k 0)) ≡ 64) → length (joined f bs) ≡ 64 * length bs
 length-joined f [] each = refl
@@ -52,6 +47,6 @@ module _ (d : List ℕ) (n i : ℕ) (s : SoundTo d n) (in-table : i < 16) (lt : 
   length-content =
       let e = entry-at d i in
       let all : length (joined (block d) (blocks-of e)) ≡ 64 * length (blocks-of e) =
-      length-joined (block d) (blocks-of e) (λ k k-in. length-block d n _ s (s .on-disk i k (record { entry = lt; used = used; within = k-in }))) in
+      length-joined (block d) (blocks-of e) (λ k k-in. length-block d _ (omega (arith, s .whole, s .on-disk i k (record { entry = lt; used = used; within = k-in })))) in
       let many = length-blocks-at in
       simp length-take (omega arith)

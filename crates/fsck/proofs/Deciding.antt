@@ -16,8 +16,8 @@ use Rattle.layout.specs.Files.{entry-bytes, entry-at, find}
 use Rattle.layout.specs.Words.{First}
 use Rattle.layout.proofs.Finding.{find-first}
 use Rattle.fsck.specs.Blocks.{size, blocks-to, has}
-use Rattle.fsck.specs.Sound.{size-ok, block-ok, blocks-ok, entry-ok, sound-to}
-use Rattle.fsck.specs.Rules.{Used, Place, block-of, SoundTo}
+use Rattle.fsck.specs.Sound.{size-ok, block-ok, blocks-ok, entry-ok, sound-to, sound}
+use Rattle.fsck.specs.Rules.{Used, Place, block-of, SoundTo, Sound}
 use Rattle.fsck.proofs.Membership.{PlaceOf, place-has, has-places}
 
 -- the blocks are in range, unseen, and each there once
@@ -227,3 +227,12 @@ sound-decides d (suc i) le =
           sound-more d i (omega arith) (before .0 (parts .0)) (entry-decides d i .0 (parts .1)),
       λ s. and-from _ _ (before .1 (sound-fewer d i (omega arith) s)) (entry-decides d i .1 (sound-right d i (omega arith) s)),
     )
+
+-- the same of the whole disk, each way
+pub sound-to-rules : (d : List ℕ) → sound d ≡ true → Sound d
+unfolding sound
+sound-to-rules d ok = sound-decides d 16 (omega arith) .0 ok
+
+pub rules-to-sound : (d : List ℕ) → Sound d → sound d ≡ true
+unfolding sound
+rules-to-sound d s = sound-decides d 16 (omega arith) .1 s

@@ -15,7 +15,7 @@ use Rattle.std.proofs.shelf.Ways.{decides-and, not-from-decides}
 use lib.Dec.{ltb}
 use lib.ListN.{length, length-take, length-drop}
 use Rattle.layout.specs.declared.entry.Entry.{Entry}
-use Rattle.layout.specs.Files.{has-entries, has-entry, entry-bytes, entry-at, entry-if, content, has-name, find-from, find, found, entry-of, file}
+use Rattle.layout.specs.Files.{has-entries, has-entry, entry-bytes, entry-at, entry-if, block, content, has-name, find-from, find, found, entry-of, file}
 use Rattle.layout.specs.Words.{Named, First, NoFile}
 
 -- the test of an entry's name decides whether it is in use and has the name
@@ -148,3 +148,8 @@ length-entry-bytes d i there =
     let long : 512 ≤ length d = leb-true 512 (length d) (parts .0) in
     let lt : i < 16 = ltb-true i 16 (parts .1) in
     simp (length-take, length-drop) (omega arith)
+
+-- a block that is on the disk is whole
+pub length-block : (d : List ℕ) (b : ℕ) → 64 * b + 64 ≤ length d → length (block d b) ≡ 64
+unfolding block
+length-block d b on-disk = simp (length-take, length-drop) (omega arith)

@@ -20,8 +20,7 @@ use Rattle.layout.specs.declared.entry.Entry.{Entry}
 use Rattle.layout.specs.Files.{has-entries, entry-at, find, entry-of, content, file, Copies, EntryPart}
 use Rattle.layout.proofs.Finding.{find-first, some-from-cond}
 use Rattle.fsck.specs.Sound.{sound}
-use Rattle.fsck.specs.Rules.{Sound}
-use Rattle.fsck.proofs.Deciding.{sound-decides}
+use Rattle.fsck.proofs.Deciding.{sound-to-rules}
 use Rattle.fsck.proofs.Contents.{sound-entry, length-content}
 use Rattle.update.specs.declared.answer.Refusal.{Refusal}
 use Rattle.update.specs.declared.answer.Refusal.the-variants.{Unsound, BadName, TooLong, Unreadable}
@@ -38,12 +37,8 @@ refused-says TooLong d x room = (refl, refl)
 refused-says Unreadable d x room = (refl, refl)
 
 module _ (d x : List ℕ) (ok : sound d ≡ true) where
-  pub sound-rules : Sound d
-  unfolding sound
-  sound-rules = sound-decides d 16 (omega arith) .0 ok
-
   pub lookup-is : (o : Option Entry) → o ≡ cond (has-entries d) (entry-of d x) None → o ≡ entry-of d x
-  lookup-is o is = is ∙ cond-true (has-entries d) _ None (and-parts (has-entries d) (ltb 0 16) (sound-entry d 16 0 sound-rules (omega arith)) .0)
+  lookup-is o is = is ∙ cond-true (has-entries d) _ None (and-parts (has-entries d) (ltb 0 16) (sound-entry d 16 0 (sound-to-rules d ok) (omega arith)) .0)
 
   pub lookup-file : (o : Option Entry) → o ≡ cond (has-entries d) (entry-of d x) None → mapped (content d) o ≡ file d x
   unfolding file
@@ -55,7 +50,7 @@ module _ (d x : List ℕ) (ok : sound d ≡ true) where
       let known = some-from-cond (ltb (find d x) 16) e _ (lookup-is (Some e) is) in
       let lt = ltb-true (find d x) 16 (known .0) in
       let used = find-first d x .here lt .0 in
-      ap (λ y. length (content d y)) (known .1) ∙ length-content d 16 (find d x) sound-rules lt lt used ∙ ap (λ (y : Entry). y .len) (sym (known .1))
+      ap (λ y. length (content d y)) (known .1) ∙ length-content d 16 (find d x) (sound-to-rules d ok) lt lt used ∙ ap (λ (y : Entry). y .len) (sym (known .1))
 
 -- what a copy answers is what reading does
 abbrev pub answer : Result ℕ ℕ → Done

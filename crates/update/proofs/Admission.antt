@@ -18,7 +18,7 @@ use Rattle.layout.specs.Entries.{as-name, named}
 use Rattle.layout.specs.Files.{has-entry, has-entries, find, found}
 use Rattle.layout.proofs.Finding.{some-from-cond, none-from-cond}
 use Rattle.fsck.specs.Sound.{sound}
-use Rattle.fsck.proofs.Deciding.{sound-decides}
+use Rattle.fsck.proofs.Deciding.{sound-to-rules}
 use Rattle.fsck.proofs.Contents.{sound-entry}
 use Rattle.update.specs.declared.answer.Refusal.{Refusal}
 use Rattle.update.specs.declared.answer.Refusal.the-variants.{Unsound, BadName, TooLong, Unreadable}
@@ -103,9 +103,8 @@ module _ (d x v : List ℕ) (n : Name) (in′ : Admitted d x n) (same : v ≡ d)
       (known .1, ltb-true (find d x) 16 (and-parts (has-entries d) (ltb (find d x) 16) (known .0) .1))
 
   pub found-nowhere : None ≡ found v (n .bytes) → 16 ≤ find d x
-  unfolding sound
   found-nowhere is =
       ⊎-elim
-      (λ lt. absurd (both-ways _ (none-from-cond _ _ (found-here None is)) (sound-entry d 16 (find d x) (sound-decides d 16 (omega arith) .0 (in′ .sound-disk)) lt)))
+      (λ lt. absurd (both-ways _ (none-from-cond _ _ (found-here None is)) (sound-entry d 16 (find d x) (sound-to-rules d (in′ .sound-disk)) lt)))
       (λ ge. ge)
       (cases-lt (find d x) 16)

@@ -16,9 +16,9 @@ use Rattle.layout.specs.Files.{has-entry, has-entries, entry-at, entry-if, find
 use Rattle.layout.proofs.Finding.{some-from-cond, none-from-cond, entry-if-some}
 use Rattle.fsck.specs.Blocks.{size, in-use, free-from, free}
 use Rattle.fsck.specs.Sound.{sound}
+use Rattle.fsck.proofs.Deciding.{sound-to-rules}
 use Rattle.fsck.proofs.Contents.{sound-entry}
 use Rattle.update.specs.Putting.{padded, unused-from, place-for}
-use Rattle.update.proofs.TakingAway.{sound-to-rules}
 
 -- the block by itself, if it is free
 abbrev if-free : List ℕ → ℕ → List ℕ

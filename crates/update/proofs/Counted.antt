@@ -17,14 +17,14 @@ use Rattle.fsck.specs.Blocks.{size, blocks-at, blocks-to, free}
 use Rattle.fsck.specs.Sound.{sound}
 use Rattle.fsck.specs.Rules.{Sound}
 use Rattle.fsck.proofs.Membership.{blocks-at-used, blocks-at-unused}
+use Rattle.fsck.proofs.Deciding.{sound-to-rules}
 use Rattle.fsck.proofs.Contents.{length-blocks-at}
 use Rattle.fsck.proofs.Counting.{free-length, in-use-length}
-use Rattle.update.specs.Answers.{good-name}
+use Rattle.update.specs.Answers.{good-name, good-file}
 use Rattle.update.specs.Writes.{after-writes}
-use Rattle.update.specs.Putting.{data-writes, chosen, unused-from, place-for, put-writes, good-file, room-for}
+use Rattle.update.specs.Putting.{data-writes, chosen, unused-from, place-for, put-writes, room-for}
 use Rattle.update.specs.Requests.{put, writes, may, step, done, changed}
 use Rattle.update.specs.Room.{used-count, needed-to, RoomCounted, PutFinished, EmptyFile}
-use Rattle.update.proofs.TakingAway.{sound-to-rules}
 use Rattle.update.proofs.PuttingLaw.{put-lawful, length-put, put-done}
 
 -- of n numbers at most n pass a test

@@ -16,12 +16,12 @@ use Rattle.layout.specs.Words.{Named}
 use Rattle.fsck.specs.Blocks.{in-use}
 use Rattle.fsck.specs.Sound.{sound}
 use Rattle.fsck.specs.Rules.{Sound}
+use Rattle.fsck.proofs.Deciding.{sound-to-rules, rules-to-sound}
 use Rattle.fsck.proofs.Agreement.{SameRead, same-bytes-read, same-sound, same-size}
 use Rattle.update.specs.Writes.{Write, after-write, after-writes, entry-write}
-use Rattle.update.proofs.Places.{Fits, length-after, block-kept}
+use Rattle.update.proofs.Places.{Fits, length-after, block-kept, after-none}
 use Rattle.update.proofs.DataLaw.{entries-after-data, read-after-data, in-use-after-data, file-after-data}
-use Rattle.update.proofs.EntryLaw.{Fit, EntryReplaced, at-here, sound-after-entry, file-other, file-new}
-use Rattle.update.proofs.TakingAway.{sound-to-rules, rules-to-sound, entry-replaced, after-none}
+use Rattle.update.proofs.EntryLaw.{Fit, EntryReplaced, entry-replaced, at-here, sound-after-entry, file-other, file-new}
 
 -- each write puts 64 bytes into a block from 8 on, on the disk, that no entry in use has
 abbrev pub DataAll : List ℕ → List Write → Type 0

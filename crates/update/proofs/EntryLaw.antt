@@ -5,8 +5,7 @@ use mathlib.Core.List.{List, [], _∷_, _++_}
 use mathlib.Core.Logic.{_⊎_, inl, inr, ⊎-elim}
 use Prim.Native.Nat.{ℕ, zero, suc, _+_, _*_, _/_, _<_, _≤_}
 use native.Mathlib.Omega.{arith}
-use lib.ListN.{length, getD, take}
-use Rattle.std.specs.Joined.{joined}
+use lib.ListN.{length, getD}
 use Rattle.std.specs.Options.{mapped}
 use Rattle.std.specs.declared.option.Option.{Option}
 use Rattle.std.specs.declared.option.Option.the-variants.{Some, None}
@@ -19,6 +18,10 @@ use Rattle.layout.specs.Words.{Named, First, NoFile}
 use Rattle.layout.proofs.Finding.{find-first, first-unique, entry-of-here, entry-of-none, no-file}
 use Rattle.fsck.specs.Blocks.{size}
 use Rattle.fsck.specs.Rules.{Used, Place, block-of, SoundTo, Sound}
+use Rattle.fsck.proofs.Agreement.{same-content}
+use Rattle.fsck.proofs.Contents.{sound-long}
+use Rattle.update.specs.Writes.{after-write, entry-write}
+use Rattle.update.proofs.Places.{entry-written, entry-beside-kept, data-block-kept, length-after-entry}
 
 -- e is fit for entry i: not in use; or in use, with a length, blocks and a name that no rule forbids beside the other entries
 pub record Fit (d : List ℕ) (i : ℕ) (e : List ℕ) : Type 0 where
@@ -37,14 +40,20 @@ pub record EntryReplaced (d : List ℕ) (i : ℕ) (e d₁ : List ℕ) : Type 0 w
   pub others : (j : ℕ) → j < 16 → (j ≡ i → ⊥) → entry-bytes d₁ j ≡ entry-bytes d j
   pub blocks : (b : ℕ) → 8 ≤ b → block d₁ b ≡ block d b
 
-joined-same : (f g : ℕ → List ℕ) (bs : List ℕ) → ((k : ℕ) → k < length bs → f (getD bs k 0) ≡ g (getD bs k 0)) → joined f bs ≡ joined g bs
-joined-same f g [] same = refl
-joined-same f g (b ∷ bs) same = λ t. same 0 (omega arith) t ++ joined-same f g bs (λ k lt. same (suc k) (omega arith)) t
+-- any write of an entry to a sound disk replaces that entry
+pub entry-replaced : (d : List ℕ) (i : ℕ) (e : List ℕ) → Sound d → i < 16 → length e ≡ 32 → EntryReplaced d i e (after-write d (entry-write d i e))
+entry-replaced d i e s lt n =
+    let long : 512 ≤ length d = omega (arith, sound-long d 16 s) in
+    record {
+      long = length-after-entry d i e long lt n;
+      here = entry-written d i e long lt n;
+      others = λ j _. entry-beside-kept d i e long lt n j;
+      blocks = data-block-kept d i e long lt n;
+    }
 
 -- a file whose blocks are all from 8 on is read alike on both
 content-kept : (d d₁ : List ℕ) (e : Entry) → ((b : ℕ) → 8 ≤ b → block d₁ b ≡ block d b) → ((k : ℕ) → k < length (blocks-of e) → 8 ≤ getD (blocks-of e) k 0) → content d₁ e ≡ content d e
-unfolding content
-content-kept d d₁ e same low = ap (take (e .len)) (joined-same (block d₁) (block d) (blocks-of e) (λ k lt. same _ (low k lt)))
+content-kept d d₁ e same low = same-content d d₁ e e refl refl (λ k lt. same _ (low k lt))
 
 module _ (d : List ℕ) (i : ℕ) (e d₁ : List ℕ) (in-table : i < 16) (s : Sound d) (fit : Fit d i e) (r : EntryReplaced d i e d₁) where
   pub at-here : entry-at d₁ i ≡ decoded e

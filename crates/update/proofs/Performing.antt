@@ -8,8 +8,8 @@ use native.Mathlib.Omega.{arith}
 use Rattle.std.proofs.shelf.Tests.{cases-bool, cond-true, cond-false, and-left, and-right, and-cases}
 use Rattle.fsck.specs.Sound.{sound}
 use Rattle.update.specs.declared.answer.Done.{Done}
-use Rattle.update.specs.Answers.{good-name, ask-refusal, put-refusal}
-use Rattle.update.specs.Putting.{good-file, room-for}
+use Rattle.update.specs.Answers.{good-name, good-file, ask-refusal, put-refusal}
+use Rattle.update.specs.Putting.{room-for}
 use Rattle.update.specs.Asking.{refusal, roomy}
 use Rattle.update.specs.Requests.{Asked, put, away, writes, may, step, after}
 use Rattle.update.specs.Writes.{after-writes}

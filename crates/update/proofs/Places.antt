@@ -1,15 +1,16 @@
--- Which blocks and entries a write changes, and which it leaves. Assumes nothing.
+-- Which blocks and entries a write changes, and which it leaves; no write of a list, and the only one. Assumes nothing.
 use mathlib.Core.Path.{_≡_, refl, sym, ap, _∙_}
-use mathlib.Core.List.{List}
+use mathlib.Core.List.{List, [], _∷_}
 use mathlib.Core.Logic.{⊎-elim}
-use Prim.Native.Nat.{ℕ, _+_, _*_, _/_, _%_, _<_, _≤_}
+use Prim.Native.Nat.{ℕ, zero, suc, _+_, _*_, _/_, _%_, _<_, _≤_}
 use native.Mathlib.Omega.{arith}
-use lib.ListN.{length, take, drop, length-take, length-drop}
+use lib.ListN.{length, take, drop}
 use Rattle.std.proofs.shelf.Tests.{cases-lt, cases-eq}
 use Rattle.layout.specs.Parts.{replaced}
 use Rattle.layout.specs.Files.{entry-bytes, block}
+use Rattle.layout.proofs.Finding.{length-block}
 use Rattle.layout.proofs.Slices.{length-replaced, part-of-part, part-before-replaced, part-replaced, part-behind-replaced}
-use Rattle.update.specs.Writes.{Write, after-write, entry-write}
+use Rattle.update.specs.Writes.{Write, after-write, after-writes, entry-write}
 
 -- a write fits a disk if its block is on it and it has 64 bytes
 pub record Fits (d : List ℕ) (w : Write) : Type 0 where
@@ -56,18 +57,17 @@ entry-in-block d i =
 
 module _ (d : List ℕ) (i : ℕ) (e : List ℕ) (long : 512 ≤ length d) (in-table : i < 16) (n : length e ≡ 32) where
   -- the block of the entry, and the half of it that the write changes
-  length-block : length (block d (i / 2)) ≡ 64
-  unfolding block
-  length-block = simp (length-take, length-drop) (omega arith)
+  whole-block : length (block d (i / 2)) ≡ 64
+  whole-block = length-block d (i / 2) (omega arith)
 
   half : 32 * (i % 2) + length e ≤ length (block d (i / 2))
-  half = omega (arith, length-block)
+  half = omega (arith, whole-block)
 
   pub entry-write-fits : Fits d (entry-write d i e)
   unfolding entry-write
   entry-write-fits = record {
     on-disk = omega arith;
-    whole = length-replaced (block d (i / 2)) (32 * (i % 2)) e half ∙ length-block;
+    whole = length-replaced (block d (i / 2)) (32 * (i % 2)) e half ∙ whole-block;
   }
 
   pub length-after-entry : length (after-write d (entry-write d i e)) ≡ length d
@@ -107,3 +107,18 @@ module _ (d : List ℕ) (i : ℕ) (e : List ℕ) (long : 512 ≤ length d) (in-t
       (λ same. entry-in-written j same ∙ neighbour-kept j same other ∙ ap (λ b. take 32 (drop (32 * (j % 2)) (block d b))) (sym same) ∙ sym (entry-in-block d j))
       (λ apart. entry-kept d (entry-write d i e) entry-write-fits j apart)
       (cases-eq (j / 2) (i / 2))
+
+-- the disk after no write, and after one
+pub after-none : (n : ℕ) (d : List ℕ) → after-writes n d [] ≡ d
+unfolding after-writes
+after-none zero d = refl
+after-none (suc n) d = refl
+
+pub after-one : (n : ℕ) (d : List ℕ) (w : Write) → 1 ≤ n → after-writes n d (w ∷ []) ≡ after-write d w
+unfolding after-writes
+after-one zero d w le = absurd (omega arith)
+after-one (suc n) d w le = after-none n (after-write d w)
+
+pub after-nothing : (d : List ℕ) (ws : List Write) → after-writes 0 d ws ≡ d
+unfolding after-writes
+after-nothing d ws = refl

@@ -24,12 +24,13 @@ use Rattle.fsck.specs.Blocks.{size, blocks-to, in-use, free, has}
 use Rattle.fsck.specs.Sound.{sound}
 use Rattle.fsck.specs.Rules.{Used, Place, block-of, Sound}
 use Rattle.fsck.proofs.Membership.{has-at, place-has}
+use Rattle.fsck.proofs.Deciding.{sound-to-rules}
 use Rattle.fsck.proofs.Contents.{sound-long}
 use Rattle.fsck.proofs.Counting.{Once, free-has, free-once}
 use Rattle.fsck.proofs.Agreement.{same-free}
-use Rattle.update.specs.Answers.{good-name}
+use Rattle.update.specs.Answers.{good-name, good-file}
 use Rattle.update.specs.Writes.{Write, after-writes, entry-write}
-use Rattle.update.specs.Putting.{padded, data-writes, chosen, unused-from, place-for, new-entry, put-writes, good-file, room-for}
+use Rattle.update.specs.Putting.{padded, data-writes, chosen, unused-from, place-for, new-entry, put-writes, room-for}
 use Rattle.update.specs.Requests.{Asked, put, writes, may, step, done, changed}
 use Rattle.update.specs.Plans.{nth-write}
 use Rattle.update.specs.Promise.{AllOrNothing, FewWrites, RoomBack}
@@ -38,7 +39,6 @@ use Rattle.update.proofs.EntryLaw.{Fit}
 use Rattle.update.proofs.DataWrites.{DataAll, Planned, Unseen, planned-sound, planned-unseen, planned-other, planned-new}
 use Rattle.update.proofs.NewFile.{OnDisk, length-padded, length-data-writes, length-entry, entry-used, entry-name, entry-len, entry-blocks, entry-flag, content-put}
 use Rattle.update.proofs.Sequences.{Lawful}
-use Rattle.update.proofs.TakingAway.{sound-to-rules}
 use Rattle.update.proofs.PlanWrites.{nth-front, nth-last, nth-past, nth-data}
 
 unused-here : (d : List ℕ) (i n : ℕ) → unused-from d i n < i + n → entry-at d (unused-from d i n) .used ≡ false

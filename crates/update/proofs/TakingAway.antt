@@ -19,38 +19,19 @@ use Rattle.layout.specs.Words.{Named}
 use Rattle.layout.proofs.Finding.{find-first, no-file, length-entry-bytes}
 use Rattle.fsck.specs.Sound.{sound}
 use Rattle.fsck.specs.Rules.{Sound}
-use Rattle.fsck.proofs.Deciding.{sound-decides}
-use Rattle.fsck.proofs.Contents.{sound-long, sound-entry}
+use Rattle.fsck.proofs.Deciding.{sound-to-rules, rules-to-sound}
+use Rattle.fsck.proofs.Contents.{sound-entry}
 use Rattle.update.specs.Answers.{good-name}
 use Rattle.update.specs.Writes.{Write, after-write, after-writes, entry-write}
 use Rattle.update.specs.Requests.{Asked, away, take-writes, writes, may, step, done, changed}
 use Rattle.update.specs.Promise.{AllOrNothing, FewWrites}
-use Rattle.update.proofs.Places.{entry-written, entry-beside-kept, data-block-kept, length-after-entry}
-use Rattle.update.proofs.EntryLaw.{Fit, EntryReplaced, at-here, sound-after-entry, file-other, file-gone}
+use Rattle.update.proofs.Places.{after-none, after-one, after-nothing}
+use Rattle.update.proofs.EntryLaw.{Fit, EntryReplaced, entry-replaced, at-here, sound-after-entry, file-other, file-gone}
 use Rattle.update.proofs.Sequences.{Lawful}
 
 -- an entry's bytes with the first one 0
 abbrev pub unused-bytes : List ℕ → ℕ → List ℕ
 unused-bytes d i = 0 ∷ drop 1 (entry-bytes d i)
-
-pub sound-to-rules : (d : List ℕ) → sound d ≡ true → Sound d
-unfolding sound
-sound-to-rules d ok = sound-decides d 16 (omega arith) .0 ok
-
-pub rules-to-sound : (d : List ℕ) → Sound d → sound d ≡ true
-unfolding sound
-rules-to-sound d s = sound-decides d 16 (omega arith) .1 s
-
--- any write of an entry to a sound disk replaces that entry
-pub entry-replaced : (d : List ℕ) (i : ℕ) (e : List ℕ) → Sound d → i < 16 → length e ≡ 32 → EntryReplaced d i e (after-write d (entry-write d i e))
-entry-replaced d i e s lt n =
-    let long : 512 ≤ length d = omega (arith, sound-long d 16 s) in
-    record {
-      long = length-after-entry d i e long lt n;
-      here = entry-written d i e long lt n;
-      others = λ j _. entry-beside-kept d i e long lt n j;
-      blocks = data-block-kept d i e long lt n;
-    }
 
 -- an entry that is not in use is fit for every place
 pub unused-fit : (d : List ℕ) (i : ℕ) (e : List ℕ) → getD e 0 0 ≡ 0 → Fit d i e
@@ -107,20 +88,6 @@ file-unchanged d x n ge y =
     (λ same. ap (file d) (sym (sameBytes-decides x y .0 same)) ∙ no-file d x .none (λ k lt. find-first d x .before k (omega arith)) ∙ sym (cond-true _ _ _ same))
     (λ other. sym (cond-false _ _ _ other))
     (cases-bool (sameBytes x y))
-
-pub after-none : (n : ℕ) (d : List ℕ) → after-writes n d [] ≡ d
-unfolding after-writes
-after-none zero d = refl
-after-none (suc n) d = refl
-
-pub after-one : (n : ℕ) (d : List ℕ) (w : Write) → 1 ≤ n → after-writes n d (w ∷ []) ≡ after-write d w
-unfolding after-writes
-after-one zero d w le = absurd (omega arith)
-after-one (suc n) d w le = after-none n (after-write d w)
-
-pub after-nothing : (d : List ℕ) (ws : List Write) → after-writes 0 d ws ≡ d
-unfolding after-writes
-after-nothing d ws = refl
 
 -- with no such file nothing is written, and else one block
 pub writes-absent : (d x : List ℕ) (n : ℕ) → 16 ≤ find d x → writes d (away x n) ≡ []

@@ -42,8 +42,12 @@ RefusedWith n Absent = ⊥
 RefusedWith n (Short k) = ⊥
 RefusedWith n (Refused q) = number q ≡ n
 
+-- a name is eleven bytes, and a file at most 1,024
 abbrev pub good-name : List ℕ → Bool
 good-name x = eqb (length x) 11
+
+abbrev pub good-file : List ℕ → Bool
+good-file c = leb (length c) 1024
 
 -- the number with which a request on a name is refused, or 0: the disk is judged first
 unfoldable pub ask-refusal : (disk name : List ℕ) → ℕ
@@ -51,7 +55,7 @@ ask-refusal d x = cond (sound d) (cond (good-name x) 0 (number BadName)) (number
 
 -- the number with which putting is refused, or 0: after the disk and the name, the file's length
 unfoldable pub put-refusal : (disk name content : List ℕ) → ℕ
-put-refusal d x c = cond (sound d) (cond (good-name x) (cond (leb (length c) 1024) 0 (number TooLong)) (number BadName)) (number Unsound)
+put-refusal d x c = cond (sound d) (cond (good-name x) (cond (good-file c) 0 (number TooLong)) (number BadName)) (number Unsound)
 
 -- the name of a request that isn't refused, or why it is
 unfoldable pub admitted : (disk name : List ℕ) → Result Name Refusal

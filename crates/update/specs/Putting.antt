@@ -39,9 +39,6 @@ new-entry x c bs = record { used = true; name = as-name x; len = length c; block
 unfoldable pub put-writes : (disk name content : List ℕ) → List Write
 put-writes d x c = data-writes (chosen d c) c ++ (entry-write d (place-for d x) (encoded (new-entry x c (chosen d c))) ∷ [])
 
-abbrev pub good-file : List ℕ → Bool
-good-file c = leb (length c) 1024
-
 -- there is an entry for the file, and there are free blocks for its bytes
 unfoldable pub room-for : (disk name content : List ℕ) → Bool
 room-for d x c = ltb (place-for d x) 16 && leb (needs (length c)) (length (free d))

@@ -8,8 +8,8 @@ use Rattle.std.specs.shelf.Text.{sameBytes}
 use Rattle.std.specs.declared.option.Option.{Option}
 use Rattle.std.specs.declared.option.Option.the-variants.{Some, None}
 use Rattle.layout.specs.Files.{entry-bytes, find}
-use Rattle.update.specs.Answers.{good-name}
-use Rattle.update.specs.Putting.{put-writes, good-file, room-for}
+use Rattle.update.specs.Answers.{good-name, good-file}
+use Rattle.update.specs.Putting.{put-writes, room-for}
 use Rattle.update.specs.Writes.{Write, after-writes, entry-write}
 
 -- what is asked of a disk, and for how many writes power lasts

@@ -12,8 +12,8 @@ use Rattle.layout.specs.Files.{entry-at, find, file}
 use Rattle.fsck.specs.Sets.{counted}
 use Rattle.fsck.specs.Blocks.{size}
 use Rattle.fsck.specs.Sound.{sound}
-use Rattle.update.specs.Answers.{good-name}
-use Rattle.update.specs.Putting.{put-writes, good-file, room-for}
+use Rattle.update.specs.Answers.{good-name, good-file}
+use Rattle.update.specs.Putting.{put-writes, room-for}
 use Rattle.update.specs.Requests.{put, step, done}
 
 -- how many of the sixteen entries are in use

@@ -12,19 +12,20 @@ ghost use Rattle.update.specs.Promise.{AllOrNothing, FewWrites};
 ghost use Rattle.update.specs.Said.{Says};
 use crate::admit::admit;
 use crate::answer::Done;
-use crate::write::entry_block;
+use crate::write::Write;
+use crate::write::entry_write;
 use crate::write::write_powered;
 use layout::disk::Disk;
 
-// The block that has entry i, with the entry no more in use and all else as it is.
-fn block_without(disk: &[u8], i: usize) -> [u8; Disk::BLOCK]
+// The write of the block that has entry i, with the entry no more in use and all else as it is.
+fn write_without(disk: &[u8], i: usize) -> Write
     requires { ⌜ (512 ≤ length (now disk)) × (i < 16) ⌝ }
-    ensures { λ r. ⌜ r ≡ entry-write (now (disk .entry)) i (0 ∷ drop 1 (entry-bytes (now (disk .entry)) i)) .bytes ⌝ }
+    ensures { λ r. ⌜ r ≡ entry-write (now (disk .entry)) i (0 ∷ drop 1 (entry-bytes (now (disk .entry)) i)) ⌝ }
 {
     let at = i * Disk::ENTRY;
     let mut entry = [0; Disk::ENTRY];
     entry[1..Disk::ENTRY].copy_from_slice(&disk[at + 1..at + Disk::ENTRY]);
-    entry_block(disk, i, &entry)
+    entry_write(disk, i, &entry)
 }
 
 // Takes the file away, if there is one, with power for so many writes: `Finished` if all were made, `Cut` if power failed before.
@@ -40,9 +41,9 @@ pub fn take_away(disk: &mut [u8], name: &[u8], lasts: u64) -> Done
     let Some(i) = Disk::new(disk).find(&name) else {
         return Done::Finished;
     };
-    let bytes = block_without(disk, i);
+    let write = write_without(disk, i);
     let mut power = lasts;
-    if write_powered(disk, i / 2, &bytes, &mut power) {
+    if write_powered(disk, &write, &mut power) {
         Done::Finished
     } else {
         Done::Cut

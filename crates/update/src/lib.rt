@@ -2,7 +2,7 @@
 pub mod admit;
 pub mod answer;
 pub mod away;
-pub mod choose;
+mod choose;
 pub mod put;
 pub mod request;
 #[cfg(test)]

@@ -17,7 +17,7 @@ use crate::answer::Refusal;
 use crate::choose::choose_blocks;
 use crate::choose::choose_entry;
 use crate::write::Write;
-use crate::write::entry_block;
+use crate::write::entry_write;
 use crate::write::write_powered;
 use layout::disk::Disk;
 use layout::entry::Entry;
@@ -59,10 +59,7 @@ impl Plan {
             blocks,
             unread: [0, 0],
         };
-        let last = Write {
-            to: i / 2,
-            bytes: entry_block(disk, i, &entry.encode()),
-        };
+        let last = entry_write(disk, i, &entry.encode());
         Some(Plan {
             blocks,
             needed,
@@ -113,7 +110,7 @@ pub fn put_file(disk: &mut [u8], name: &[u8], content: &[u8], lasts: u64) -> Don
     let mut power = lasts;
     let mut k = 0;
     while let Some(write) = plan.write(content, k) {
-        if !write_powered(disk, write.to, &write.bytes, &mut power) {
+        if !write_powered(disk, &write, &mut power) {
             return Done::Cut;
         }
         k += 1;

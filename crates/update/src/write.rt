@@ -24,44 +24,40 @@ fn fill(part: &mut [u8], bytes: &[u8; Disk::BLOCK])
     part.copy_from_slice(bytes);
 }
 
-// Puts the bytes into the block, all of them, and changes nothing else.
-pub(crate) fn write_block(disk: &mut [u8], block: usize, bytes: &[u8; Disk::BLOCK])
-    requires { ⌜ 64 * block + 64 ≤ length (now disk) ⌝ }
-    ensures { λ _. ⌜ now (disk .exit) ≡ after-write (now (disk .entry)) (record { to = block; bytes = now (bytes .entry) }) ⌝ }
+// Makes the write: its bytes are in its block, all of them, and nothing else is changed.
+pub(crate) fn write_block(disk: &mut [u8], write: &Write)
+    requires { ⌜ 64 * now write .to + 64 ≤ length (now disk) ⌝ }
+    ensures { λ _. ⌜ now (disk .exit) ≡ after-write (now (disk .entry)) (now (write .entry)) ⌝ }
 {
-    let at = block * Disk::BLOCK;
-    fill(&mut disk[at..at + Disk::BLOCK], bytes);
+    let at = write.to * Disk::BLOCK;
+    fill(&mut disk[at..at + Disk::BLOCK], &write.bytes);
 }
 
 // The same while power lasts, which then lasts for one write less; false, and nothing written, once it has failed.
-pub(crate) fn write_powered(
-    disk: &mut [u8],
-    block: usize,
-    bytes: &[u8; Disk::BLOCK],
-    power: &mut u64,
-) -> bool
-    requires { ⌜ 64 * block + 64 ≤ length (now disk) ⌝ }
+pub(crate) fn write_powered(disk: &mut [u8], write: &Write, power: &mut u64) -> bool
+    requires { ⌜ 64 * now write .to + 64 ≤ length (now disk) ⌝ }
     ensures made { λ r. ⌜ r ≡ ltb 0 (now (power .entry)) ⌝ }
     ensures power { λ _. ⌜ now (power .exit) ≡ now (power .entry) - 1 ⌝ }
-    ensures disk { λ r. ⌜ now (disk .exit) ≡ cond r (after-write (now (disk .entry)) (record { to = block; bytes = now (bytes .entry) })) (now (disk .entry)) ⌝ }
+    ensures disk { λ r. ⌜ now (disk .exit) ≡ cond r (after-write (now (disk .entry)) (now (write .entry))) (now (disk .entry)) ⌝ }
 {
     if *power == 0 {
         return false;
     }
     *power -= 1;
-    write_block(disk, block, bytes);
+    write_block(disk, write);
     true
 }
 
-// The block that has entry i, with these bytes in the entry's place and the other entry as it is.
-pub(crate) fn entry_block(disk: &[u8], i: usize, entry: &[u8; Disk::ENTRY]) -> [u8; Disk::BLOCK]
+// The write of the block that has entry i, with these bytes in the entry's place and the other entry as it is.
+pub(crate) fn entry_write(disk: &[u8], i: usize, entry: &[u8; Disk::ENTRY]) -> Write
     requires { ⌜ (512 ≤ length (now disk)) × (i < 16) ⌝ }
-    ensures { λ r. ⌜ r ≡ entry-write (now (disk .entry)) i (now (entry .entry)) .bytes ⌝ }
+    ensures { λ r. ⌜ r ≡ entry-write (now (disk .entry)) i (now (entry .entry)) ⌝ }
 {
-    let at = i / 2 * Disk::BLOCK;
+    let to = i / 2;
+    let at = to * Disk::BLOCK;
     let mut bytes = [0; Disk::BLOCK];
     bytes.copy_from_slice(&disk[at..at + Disk::BLOCK]);
     let half = i % 2 * Disk::ENTRY;
     bytes[half..half + Disk::ENTRY].copy_from_slice(entry);
-    bytes
+    Write { to, bytes }
 }

@@ -11,17 +11,17 @@ use Rattle.std.proofs.shelf.Tests.{cases-lt, and-parts, and-from, lt-ltb, ltb-t
 use Rattle.layout.specs.declared.name.Name.{Name}
 use Rattle.layout.specs.Files.{has-entry, has-entries, held, find, found, EntryPart}
 use Rattle.layout.proofs.Finding.{some-from-cond, none-from-cond}
-use Rattle.fsck.proofs.Deciding.{sound-decides}
+use Rattle.fsck.proofs.Deciding.{sound-to-rules}
 use Rattle.fsck.proofs.Contents.{sound-entry}
 use Rattle.update.proofs.Admission.{Admitted, admitted-ok, admitted-err}
-use Rattle.reader.proofs.Reading.{entry-unfit, entry-absent, entry-there, sound-rules}
+use Rattle.reader.proofs.Reading.{entry-unfit, entry-absent, entry-there}
 use Rattle.reader.proofs.read.entry_of.Needs as need
 
 -- no place was found on a sound disk
 past : (d x : List ℕ) (n : Name) → Admitted d x n → None ≡ found d x → 16 ≤ find d x
 past d x n in′ is =
     ⊎-elim
-    (λ lt. absurd (both-ways _ (none-from-cond _ _ is) (sound-entry d 16 (find d x) (sound-rules d x (in′ .sound-disk)) lt)))
+    (λ lt. absurd (both-ways _ (none-from-cond _ _ is) (sound-entry d 16 (find d x) (sound-to-rules d (in′ .sound-disk)) lt)))
     (λ ge. ge)
     (cases-lt (find d x) 16)
 

@@ -7,13 +7,15 @@ use lib.Dec.{ltb}
 use lib.ListN.{length}
 use Rattle.std.proofs.shelf.Tests.{cond-true, cond-false, ltb-true, ltb-false}
 use Rattle.layout.specs.Files.{find}
+use Rattle.fsck.proofs.Contents.{sound-long}
+use Rattle.fsck.proofs.Deciding.{sound-to-rules}
 use Rattle.update.specs.declared.answer.Done.the-variants.{Finished, Cut, Refused}
 use Rattle.update.specs.Answers.{ask-refusal}
-use Rattle.update.specs.Writes.{after-write, entry-write}
+use Rattle.update.specs.Writes.{Write, after-write, entry-write}
 use Rattle.update.specs.Requests.{away, step, done}
 use Rattle.update.specs.Said.{Says}
 use Rattle.update.proofs.Admission.{Admitted, admitted-ok, admitted-err, refused-says, found-place, found-nowhere}
-use Rattle.update.proofs.TakingAway.{unused-bytes, sound-to-rules, away-lawful, away-few, away-absent, away-cut, away-made}
+use Rattle.update.proofs.TakingAway.{unused-bytes, away-lawful, away-few, away-absent, away-cut, away-made}
 use Rattle.update.proofs.away.take_away.Needs as need
 
 -- the answer to a request that was admitted
@@ -42,9 +44,18 @@ returns-in-rest c =
     record { says = says d x n d true (in′ .unrefused) (away-absent d x n (in′ .eleven) gone); whole = away-lawful d x n .whole; few = away-few d x n }
 
 -- the write that was made is the one that the request has
-made : (d x : List ℕ) (i : ℕ) (bytes : List ℕ) → bytes ≡ entry-write d i (unused-bytes d i) .bytes → i ≡ find d x → after-write d (record { to = i / 2; bytes = bytes }) ≡ after-write d (entry-write d (find d x) (unused-bytes d (find d x)))
+made : (d x : List ℕ) (i : ℕ) (w : Write) → w ≡ entry-write d i (unused-bytes d i) → i ≡ find d x → after-write d w ≡ after-write d (entry-write d (find d x) (unused-bytes d (find d x)))
+made d x i w is place = ap (after-write d) (is ∙ ap (λ k. entry-write d k (unused-bytes d k)) place)
+
+-- and its block is one of the entries' blocks
+pub write-powered-requires : need.write-powered-requires
 unfolding entry-write
-made d x i bytes is place = (λ j. after-write d (record { to = i / 2; bytes = is j })) ∙ ap (λ k. after-write d (entry-write d k (unused-bytes d k))) place
+write-powered-requires c κs =
+    let d = c .args .disk .now in
+    let in′ = admitted-ok d (c .args .name .now) (c .in-Ok .name) (c .in-Ok .ensures tt) in
+    let place = found-place d (c .args .name .now) _ _ in′ (λ j. c .new .ensures j .now) (c .in-Some .i) (c .in-Some .ensures tt .value) in
+    let to : c .write-without-write .result .to ≡ c .in-Some .i / 2 = ap (λ (w : Write). w .to) (c .write-without-write .ensures) in
+    omega (arith, to, place .0, place .1, sound-long d 16 (sound-to-rules d (in′ .sound-disk)))
 
 pub returns-then-write-powered : need.returns-then-write-powered
 returns-then-write-powered c =
@@ -56,7 +67,7 @@ returns-then-write-powered c =
     let powered : 0 < n = ltb-true 0 n (sym (c .write-powered .ensures .made) ∙ c .if-write-powered .taken) in
     let step-is = away-made d x n (in′ .eleven) (place .1) powered in
     let written : c .write-powered .last .disk ≡ step d (away x n) =
-    c .write-powered .ensures .disk ∙ cond-true _ _ _ (c .if-write-powered .taken) ∙ made d x (c .in-Some .i) (c .block-without-bytes .result) (c .block-without-bytes .ensures) (place .0) ∙ step-is .0 in
+    c .write-powered .ensures .disk ∙ cond-true _ _ _ (c .if-write-powered .taken) ∙ made d x (c .in-Some .i) (c .write-without-write .result) (c .write-without-write .ensures) (place .0) ∙ step-is .0 in
     record { says = says d x n _ true (in′ .unrefused) (written, step-is .1); whole = away-lawful d x n .whole; few = away-few d x n }
 
 pub returns-else-write-powered : need.returns-else-write-powered

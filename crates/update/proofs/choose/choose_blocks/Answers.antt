@@ -9,8 +9,8 @@ use Rattle.layout.specs.Files.{has-entries}
 use Rattle.fsck.specs.Sets.{member}
 use Rattle.fsck.specs.Blocks.{size, in-use}
 use Rattle.fsck.specs.Sound.{sound}
+use Rattle.fsck.proofs.Deciding.{sound-to-rules}
 use Rattle.fsck.proofs.Contents.{sound-long}
-use Rattle.update.proofs.TakingAway.{sound-to-rules}
 use Rattle.update.proofs.Choosing.{Chosen, chosen-as, chosen-none, chosen-used, chosen-enough, chosen-more, chosen-all, chosen-too-few}
 use Rattle.update.proofs.choose.choose_blocks.Needs as need
 use Rattle.update.proofs.choose.choose_blocks.Needs.{then-n-needed·then-not-contains, else-n-needed, else-n-needed·by·then-n-needed·else-not-contains, else-n-needed·by·else-n-needed}

@@ -10,18 +10,19 @@ use Rattle.std.specs.declared.option.Option.the-variants.{Some, None}
 use Rattle.std.proofs.shelf.Tests.{cond-true, cond-false, ltb-true, ltb-false, le-leb, lt-leb}
 use Rattle.layout.specs.declared.name.Name.{Name}
 use Rattle.fsck.specs.Sound.{sound}
+use Rattle.fsck.proofs.Deciding.{sound-to-rules}
 use Rattle.update.specs.declared.answer.Refusal.the-variants.{TooLong}
 use Rattle.update.specs.declared.answer.Done.{Done}
 use Rattle.update.specs.declared.answer.Done.the-variants.{Finished, Cut, Full, Refused}
 use Rattle.update.specs.declared.put.Plan.{Plan}
-use Rattle.update.specs.Answers.{good-name, put-refusal}
+use Rattle.update.specs.Answers.{good-name, good-file, put-refusal}
 use Rattle.update.specs.Writes.{Write, after-write, after-writes}
-use Rattle.update.specs.Putting.{put-writes, good-file, room-for}
+use Rattle.update.specs.Putting.{put-writes, room-for}
 use Rattle.update.specs.Plans.{plan-writes, nth-write, PlanSays}
 use Rattle.update.specs.Requests.{put, writes, step, done}
 use Rattle.update.specs.Said.{Says}
 use Rattle.update.proofs.Admission.{Admitted, admitted-ok, admitted-err, refused-says}
-use Rattle.update.proofs.TakingAway.{sound-to-rules, after-nothing}
+use Rattle.update.proofs.Places.{after-nothing}
 use Rattle.update.proofs.PlanWrites.{nth-within, nth-beyond, after-more, after-all}
 use Rattle.update.proofs.PuttingLaw.{put-lawful, put-few, room-back, put-fits, put-may, put-step, put-done}
 use Rattle.update.proofs.Counted.{room-counted, put-finished, empty-file}

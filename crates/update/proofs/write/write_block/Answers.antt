@@ -13,8 +13,8 @@ pub returns : need.returns
 unfolding after-write
 returns c =
     let d = c .args .disk .now in
-    let b = c .args .block in
-    let bytes = c .args .bytes .now in
+    let b = c .args .write .now .to in
+    let bytes = c .args .write .now .bytes in
     let long : length bytes ≡ 64 = search needs in
     let size : (b * 64 + 64) - b * 64 ≡ length bytes = omega arith in
     putMid-replaced (b * 64) _ d _ bytes (c .fill .ensures) size ∙ ap (λ at. replaced d at bytes) (mul-comm b 64)

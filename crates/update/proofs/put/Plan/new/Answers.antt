@@ -12,12 +12,12 @@ use Rattle.layout.specs.declared.entry.Entry.{Entry}
 use Rattle.layout.specs.Entries.{encoded, needs}
 use Rattle.layout.proofs.Finding.{some-from-cond, none-from-cond}
 use Rattle.fsck.specs.Blocks.{free}
+use Rattle.fsck.proofs.Deciding.{sound-to-rules}
 use Rattle.fsck.proofs.Contents.{sound-long}
-use Rattle.update.specs.Writes.{Write, entry-write}
+use Rattle.update.specs.Writes.{entry-write}
 use Rattle.update.specs.Putting.{padded, data-writes, chosen, place-for, new-entry, put-writes, room-for}
 use Rattle.update.specs.Plans.{plan-writes, PlanSays}
 use Rattle.update.proofs.NewFile.{take-padded}
-use Rattle.update.proofs.TakingAway.{sound-to-rules}
 use Rattle.update.proofs.put.Plan.new.Needs as need
 
 pub returns-in-Break-i : need.returns-in-Break-i
@@ -44,8 +44,8 @@ returns-in-Break-blocks c =
 here : (d x : List ℕ) (i : ℕ) → Some i ≡ cond (ltb (place-for d x) 16) (Some (place-for d x)) None → (ltb (place-for d x) 16 ≡ true) × (i ≡ place-for d x)
 here d x i is = some-from-cond (ltb (place-for d x) 16) i (place-for d x) is
 
-pub entry-block-requires : need.entry-block-requires
-entry-block-requires c κs =
+pub entry-write-last-requires : need.entry-write-last-requires
+entry-write-last-requires c κs =
     let d = c .args .disk .now in
     let x = c .args .name .bytes in
     let place = here d x (c .in-Continue-i .i) (c .in-Continue-i .ensures tt) in
@@ -60,7 +60,7 @@ numbers d c n is few enough =
     take-padded 16 n (take n (free d)) few (omega arith) ∙ take-all n (take n (free d)) (omega arith) ∙ ap (λ k. take k (free d)) is
 
 pub returns : need.returns
-unfolding room-for plan-writes put-writes entry-write new-entry chosen
+unfolding room-for plan-writes put-writes new-entry chosen
 returns c =
     let d = c .args .disk .now in
     let x = c .args .name .bytes in
@@ -74,8 +74,7 @@ returns c =
     let blocks : c .in-Continue-blocks .blocks ≡ padded 16 (chosen d xs) = got .1 ∙ ap (λ k. padded 16 (take k (free d))) count in
     let data-first : take n (c .in-Continue-blocks .blocks) ≡ chosen d xs = ap (take n) (got .1) ∙ numbers d xs n count few (leb-true n (length (free d)) (got .0)) in
     let entry : c .encode .result ≡ encoded (new-entry x xs (chosen d xs)) = c .encode .ensures .bytes ∙ (λ j. encoded (record { used = true; name = c .args .name; len = length xs; blocks = blocks j; unread = 0 ∷ (0 ∷ []) })) in
-    let last : _≡_ {A = Write} (record { to = i / 2; bytes = c .entry-block .result }) (entry-write d (place-for d x) (encoded (new-entry x xs (chosen d xs)))) =
-    (λ j. record { to = i / 2; bytes = c .entry-block .ensures j }) ∙ (λ j. entry-write d (place .1 j) (entry j)) in (
+    let last = c .entry-write-last .ensures ∙ (λ j. entry-write d (place .1 j) (entry j)) in (
       and-from _ _ (place .0) (ap (λ k. leb k (length (free d))) (sym count) ∙ got .0),
       (λ j. data-writes (data-first j) xs ++ (last j ∷ [])),
     )

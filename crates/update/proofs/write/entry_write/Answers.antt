@@ -8,7 +8,7 @@ use Rattle.layout.specs.Files.{block}
 use Rattle.layout.specs.Parts.{replaced}
 use Rattle.layout.proofs.Slices.{putMid-replaced}
 use Rattle.update.specs.Writes.{entry-write}
-use Rattle.update.proofs.write.entry_block.Needs as need
+use Rattle.update.proofs.write.entry_write.Needs as need
 
 pub returns : need.returns
 unfolding entry-write block
@@ -20,4 +20,5 @@ returns c =
     let half : (i % 2 * 32 + 32) - i % 2 * 32 ≡ length e = omega arith in
     let whole : (i / 2 * 64 + 64) - i / 2 * 64 ≡ 64 = omega arith in
     let copied : c .copy-from-slice .last .self ≡ block d (i / 2) = c .copy-from-slice .ensures .after ∙ (λ j. take (whole j) (drop (mul-comm (i / 2) 64 j) d)) in
-    putMid-replaced (i % 2 * 32) _ _ _ e (c .copy-from-slice-2 .ensures .after) half ∙ (λ j. replaced (copied j) (mul-comm (i % 2) 32 j) e)
+    let written = putMid-replaced (i % 2 * 32) _ _ _ e (c .copy-from-slice-2 .ensures .after) half ∙ (λ j. replaced (copied j) (mul-comm (i % 2) 32 j) e) in
+    λ j. record { to = i / 2; bytes = written j }

@@ -6,7 +6,7 @@ use lib.ListN.{take, drop}
 use Rattle.std.proofs.shelf.Lists.{drop-drop, drop-take}
 use Rattle.layout.specs.Files.{entry-bytes}
 use Rattle.update.specs.Writes.{entry-write}
-use Rattle.update.proofs.away.block_without.Needs as need
+use Rattle.update.proofs.away.write_without.Needs as need
 
 -- all but the first byte of an entry
 rest-of-entry : (d : List ℕ) (i : ℕ) → take 31 (drop (i * 32 + 1) d) ≡ drop 1 (entry-bytes d i)
@@ -21,4 +21,4 @@ returns c =
     let i = c .args .i in
     let size : (i * 32 + 32) - (i * 32 + 1) ≡ 31 = omega arith in
     let copied = c .copy-from-slice .ensures .after ∙ ap (λ n. take n (drop (i * 32 + 1) d)) size ∙ rest-of-entry d i in
-    c .entry-block .ensures ∙ ap (λ l. entry-write d i (0 ∷ l) .bytes) (append-nil _ ∙ copied)
+    c .entry-write .ensures ∙ ap (λ l. entry-write d i (0 ∷ l)) (append-nil _ ∙ copied)
