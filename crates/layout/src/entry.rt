@@ -45,7 +45,7 @@ impl Entry {
 
     const LEN_AT: usize = Entry::NAME_AT + Name::SIZE;
 
-    const BLOCKS_AT: usize = Entry::LEN_AT + 2;
+    pub const BLOCKS_AT: usize = Entry::LEN_AT + 2;
 
     const UNREAD_AT: usize = Entry::BLOCKS_AT + Disk::FILE_BLOCKS;
 

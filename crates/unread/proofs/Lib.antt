@@ -1,0 +1,9 @@
+pub mod Extents
+pub mod Reach
+pub mod ContentBytes
+pub mod Unseen
+pub mod Others
+pub mod Completeness
+pub mod Agreeing
+pub mod Behind
+pub mod Stepping

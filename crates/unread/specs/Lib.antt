@@ -1,0 +1,5 @@
+pub mod Unread
+pub mod Kinds
+pub mod Complete
+pub mod Answers
+pub mod Runs
