@@ -7,7 +7,7 @@ use Rattle.std.specs.shelf.Text.{sameBytes}
 use Rattle.std.specs.declared.option.Option.{Option}
 use Rattle.std.specs.declared.option.Option.the-variants.{Some, None}
 use Rattle.console.specs.declared.verb.Verb.{Verb}
-use Rattle.console.specs.declared.verb.Verb.the-variants.{Away, Check, Disk, Entry, List as Listing, Map, Power, Put, Read}
+use Rattle.console.specs.declared.verb.Verb.the-variants.{Away, Check, Disk, Entry, List as Listing, Map, Power, Put, Read, Unread}
 
 abbrev pub verb : List ℕ → Option Verb
 verb w =
@@ -20,4 +20,5 @@ verb w =
     (cond (sameBytes w (codes "power")) (Some Power)
     (cond (sameBytes w (codes "put")) (Some Put)
     (cond (sameBytes w (codes "read")) (Some Read)
-    None))))))))
+    (cond (sameBytes w (codes "unread")) (Some Unread)
+    None)))))))))

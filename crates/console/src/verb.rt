@@ -14,6 +14,7 @@ pub enum Verb {
     Power,
     Put,
     Read,
+    Unread,
 }
 
 fn is(word: &[u8], spelled: &[u8]) -> bool
@@ -53,6 +54,9 @@ impl Verb {
         }
         if is(word, b"read") {
             return Some(Verb::Read);
+        }
+        if is(word, b"unread") {
+            return Some(Verb::Unread);
         }
         None
     }

@@ -17,6 +17,8 @@ use reader::read::entry_of;
 use reader::read::read_file;
 use std::alloc::AllocError;
 use std::alloc::Global;
+use unread::runs::RunsIterator;
+use unread::runs::unread_runs;
 use update::answer::Done;
 use update::answer::Refusal;
 use update::request::Request;
@@ -44,6 +46,20 @@ struct Pending {
     bytes: Vec<u8>,
     // The first line that is no line of bytes.
     bad: Option<usize>,
+}
+
+// A line with the first and the last place of each run of places that the old machine doesn't read.
+fn unread_lines(heap: Global, disk: &[u8]) -> Result<String, Fault> {
+    let runs = match unread_runs(disk) {
+        Ok(runs) => runs,
+        Err(place) => return Err(Fault::Refused(Refusal::Unsound, place)),
+    };
+    let mut lines = String::new(heap);
+    for run in runs {
+        let (first, last) = (run.start, run.end.saturating_sub(1));
+        lines.push_str(format!(heap, "{first} {last}\n")?.as_str())?;
+    }
+    Ok(lines)
 }
 
 #[derive(Drop)]
@@ -153,6 +169,7 @@ impl Interpreter {
             Verb::Power => self.set_power(rest),
             Verb::Put => self.begin_put(rest),
             Verb::Read => self.read(rest),
+            Verb::Unread => self.unread(rest),
         }
     }
 
@@ -227,6 +244,14 @@ impl Interpreter {
         self.alone(rest)?;
         let map = block_map(self.heap, self.disk.as_slice())?;
         self.out.push_str(map.as_str())?;
+        Ok(())
+    }
+
+    // `unread`: where the old machine doesn't read.
+    fn unread(&mut self, rest: &[u8]) -> Result<(), Fault> {
+        let lines = unread_lines(self.heap, self.disk.as_slice())?;
+        self.alone(rest)?;
+        self.out.push_str(lines.as_str())?;
         Ok(())
     }
 
