@@ -1,10 +1,7 @@
 -- A text that is read byte after byte spells what it spells at once. Assumes nothing.
 use mathlib.Core.Path.{_≡_, refl, sym, ap, _∙_}
-use mathlib.Core.Bool.{Bool, true, false, cond}
-use mathlib.Core.List.{List, [], _∷_, _++_, append-nil, append-assoc}
-use mathlib.Core.Logic.{⊎-elim}
+use mathlib.Core.List.{List, [], _++_, append-assoc}
 use Prim.Native.Nat.{ℕ, _+_, _<_, _≤_}
-use native.Mathlib.Omega.{arith}
 use lib.ListN.{length, getD, drop}
 use Rattle.std.specs.Options.{mapped}
 use Rattle.std.specs.Vec.{listOf}
@@ -12,8 +9,8 @@ use Rattle.std.specs.declared.option.Option.{Option}
 use Rattle.std.specs.declared.option.Option.the-variants.{Some, None}
 use Rattle.std.proofs.shelf.Lists.{at-drop-more, at-drop-all}
 use Rattle.console.specs.declared.escape.Escape.{Escape}
-use Rattle.console.specs.declared.escape.Escape.the-variants.{Plain, Slash, High, Low}
-use Rattle.console.specs.Names.{hex, Begun, step, ended, onward, spelled}
+use Rattle.console.specs.declared.escape.Escape.the-variants.{Plain}
+use Rattle.console.specs.Names.{Begun, step, ended, onward, spelled}
 
 -- after some bytes of the text, these were spelled, and what is left spells the rest
 pub record Spelt (text done : List ℕ) (state : Escape) (left : List ℕ) : Type 0 where

@@ -2,7 +2,7 @@
 ghost use mathlib.Core.Path.{_≡_};
 ghost use Prim.Native.Nat.{_<_, _≤_};
 ghost use lib.ListN.{length};
-ghost use Rattle.std.specs.shelf.Lists.{leading, ending};
+ghost use Rattle.std.specs.shelf.Lists.{leading};
 ghost use Rattle.console.specs.Words.{blank, ink, from-ink, to-ink, trimmed, word, behind, in-line, without-return, first-line, other-lines};
 
 // A blank is a space or a tab.

@@ -1,18 +1,17 @@
 -- On a sound disk a file has as many bytes as its entry says. Assumes nothing.
-use mathlib.Core.Path.{_≡_, refl, sym, ap, _∙_}
+use mathlib.Core.Path.{_≡_, refl, _∙_}
 use mathlib.Core.Bool.{true}
-use mathlib.Core.List.{List, [], _∷_, _++_}
-use Prim.Native.Nat.{ℕ, zero, suc, _+_, _-_, _*_, min, _<_, _≤_}
+use mathlib.Core.List.{List, [], _∷_}
+use Prim.Native.Nat.{ℕ, suc, _+_, _-_, _*_, _<_, _≤_}
 use native.Mathlib.Omega.{arith}
-use lib.ListN.{length, getD, take, drop, length-append, length-take, length-drop}
+use lib.ListN.{length, getD, length-append, length-take, length-drop}
 use Rattle.std.specs.Joined.{joined}
 use Rattle.std.proofs.shelf.Tests.{and-from, le-leb, lt-ltb}
 use Rattle.layout.specs.declared.entry.Entry.{Entry}
 use Rattle.layout.specs.Entries.{decoded, needs, blocks-of}
 use Rattle.layout.specs.Files.{has-entry, entry-bytes, entry-at, block, content}
 use Rattle.layout.proofs.Finding.{length-entry-bytes, length-block}
-use Rattle.fsck.specs.Blocks.{size}
-use Rattle.fsck.specs.Rules.{Used, Place, block-of, SoundTo, Sound}
+use Rattle.fsck.specs.Rules.{Used, SoundTo}
 
 pub sound-long : (d : List ℕ) (n : ℕ) → SoundTo d n → 576 ≤ length d
 sound-long d n s = omega (arith, s .whole, s .least)

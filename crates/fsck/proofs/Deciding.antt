@@ -1,24 +1,22 @@
 -- The computed judgement of a disk decides the rules. Assumes nothing.
 use mathlib.Core.Path.{_≡_, refl, sym, ap, subst, _∙_}
-use mathlib.Core.Bool.{Bool, true, false, cond, not, _&&_, _||_}
+use mathlib.Core.Bool.{Bool, true, false, not, _&&_, _||_}
 use mathlib.Core.List.{List, [], _∷_}
-use mathlib.Core.Logic.{_⊎_, inl, inr, ⊎-elim}
-use Prim.Native.Nat.{ℕ, zero, suc, _+_, _*_, _<_, _≤_}
+use mathlib.Core.Logic.{_⊎_, ⊎-elim}
+use Prim.Native.Nat.{ℕ, zero, suc, _*_, _<_, _≤_}
 use native.Mathlib.Omega.{arith}
 use lib.Dec.{eqb, leb, ltb}
 use lib.ListN.{length, getD}
 use Rattle.std.specs.Orderings.{Decides}
 use Rattle.std.proofs.shelf.Tests.{cases-bool, cases-eq, cases-lt, both-ways, and-parts, and-from, or-parts, or-from, or-cases, or-left, or-right, not-true, not-from-false, le-leb, leb-true, lt-ltb, ltb-true, eq-eqb, eqb-true, eqb-false, ne-eqb}
 use Rattle.layout.specs.declared.name.Name.{Name}
-use Rattle.layout.specs.declared.entry.Entry.{Entry}
 use Rattle.layout.specs.Entries.{as-name, blocks-of}
 use Rattle.layout.specs.Files.{entry-bytes, entry-at, find}
-use Rattle.layout.specs.Words.{First}
 use Rattle.layout.proofs.Finding.{find-first}
 use Rattle.fsck.specs.Blocks.{size, blocks-to, has}
 use Rattle.fsck.specs.Sound.{size-ok, block-ok, blocks-ok, entry-ok, sound-to, sound}
 use Rattle.fsck.specs.Rules.{Used, Place, block-of, SoundTo, Sound}
-use Rattle.fsck.proofs.Membership.{PlaceOf, place-has, has-places}
+use Rattle.fsck.proofs.Membership.{place-has, has-places}
 
 -- the blocks are in range, unseen, and each there once
 pub record Fresh (n : ℕ) (seen : ℕ → Bool) (bs : List ℕ) : Type 0 where

@@ -6,7 +6,6 @@ use lib.Dec.{eqb, leb, ltb}
 use lib.ListN.{length, getD}
 use Rattle.std.specs.declared.option.Option.{Option}
 use Rattle.std.specs.declared.option.Option.the-variants.{Some, None}
-use Rattle.layout.specs.declared.entry.Entry.{Entry}
 use Rattle.layout.specs.Entries.{blocks-of}
 use Rattle.layout.specs.Files.{entry-bytes, entry-at, find}
 use Rattle.fsck.specs.Blocks.{size, blocks-to, has}

@@ -1,12 +1,12 @@
 -- A file's bytes, copied block after block. Assumes nothing.
-use mathlib.Core.Path.{_≡_, refl, sym, ap, subst, _∙_}
-use mathlib.Core.List.{List, [], _∷_, _++_, append-nil, append-assoc}
+use mathlib.Core.Path.{_≡_, sym, ap, subst, _∙_}
+use mathlib.Core.List.{List, [], _++_}
 use mathlib.Core.Logic.{⊎-elim}
-use Prim.Native.Nat.{ℕ, zero, suc, _+_, _*_, _-_, min, _<_, _≤_}
+use Prim.Native.Nat.{ℕ, _+_, _*_, _-_, min, _<_, _≤_}
 use native.Mathlib.Omega.{arith}
 use lib.ListN.{length, getD, take, drop, length-append, length-take, length-drop}
 use Rattle.std.specs.Joined.{joined}
-use Rattle.std.proofs.shelf.Lists.{joined-more, take-more, drop-all, take-all, drop-drop, drop-at, take-at}
+use Rattle.std.proofs.shelf.Lists.{joined-more, take-more, drop-all, take-all, drop-drop}
 use Rattle.std.proofs.shelf.Tests.{cases-lt, le-ltb}
 use Rattle.layout.specs.Parts.{replaced}
 use Rattle.std.specs.Orderings.{When}

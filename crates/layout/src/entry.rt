@@ -1,7 +1,6 @@
 // An entry of a disk: what its 32 bytes spell.
 ghost use mathlib.Core.Path.{_≡_};
-ghost use mathlib.Core.List.{List};
-ghost use Prim.Native.Nat.{ℕ, _+_, _≤_};
+ghost use Prim.Native.Nat.{_+_, _≤_};
 ghost use lib.ListN.{length, getD};
 ghost use Rattle.layout.specs.Entries.{decoded, encoded, blocks-of};
 ghost use Rattle.layout.specs.Parts.{replaced};

@@ -13,11 +13,11 @@ use Rattle.std.specs.declared.option.Option.{Option}
 use Rattle.std.specs.declared.option.Option.the-variants.{Some, None}
 use Rattle.std.specs.declared.result.Result.{Result}
 use Rattle.std.specs.declared.result.Result.the-variants.{Ok, Err}
-use Rattle.std.proofs.shelf.Tests.{cond-true, both-ways, and-parts, and-from, cases-lt, lt-ltb, le-ltb, ltb-true, ltb-false}
+use Rattle.std.proofs.shelf.Tests.{cond-true, both-ways, and-parts, and-from, cases-lt, lt-ltb, le-ltb, ltb-true}
 use Rattle.std.proofs.shelf.Ways.{when-true, when-false}
 use Rattle.layout.specs.declared.name.Name.{Name}
 use Rattle.layout.specs.declared.entry.Entry.{Entry}
-use Rattle.layout.specs.Files.{has-entries, entry-at, find, entry-of, content, file, Copies, EntryPart}
+use Rattle.layout.specs.Files.{has-entries, find, entry-of, content, file, Copies, EntryPart}
 use Rattle.layout.proofs.Finding.{find-first, some-from-cond}
 use Rattle.fsck.specs.Sound.{sound}
 use Rattle.fsck.proofs.Deciding.{sound-to-rules}

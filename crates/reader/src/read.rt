@@ -1,5 +1,4 @@
 // What the old machine reads, for whoever asks by name.
-ghost use mathlib.Core.Path.{_≡_};
 ghost use Rattle.update.specs.Answers.{ask-refusal};
 ghost use Rattle.reader.specs.Answered.{ReadSays, EntrySays};
 use layout::disk::Disk;

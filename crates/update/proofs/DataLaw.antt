@@ -1,16 +1,14 @@
 -- The data-write law: any bytes written into a block from 8 on that no entry in use has leave the entries, soundness, every file and the free blocks as they were. Assumes nothing.
-use mathlib.Core.Path.{_≡_, refl, sym, ap, subst, _∙_}
-use mathlib.Core.Bool.{true, false}
+use mathlib.Core.Path.{_≡_, sym, ap, _∙_}
+use mathlib.Core.Bool.{false}
 use mathlib.Core.List.{List}
-use Prim.Native.Nat.{ℕ, _/_, _<_, _≤_}
+use Prim.Native.Nat.{ℕ, _<_, _≤_}
 use native.Mathlib.Omega.{arith}
-use lib.ListN.{length, getD}
 use Rattle.std.proofs.shelf.Tests.{both-ways}
-use Rattle.layout.specs.Entries.{blocks-of}
 use Rattle.layout.specs.Files.{entry-bytes, entry-at, block, file}
 use Rattle.fsck.specs.Blocks.{blocks-to, in-use, free, has}
 use Rattle.fsck.specs.Sound.{sound}
-use Rattle.fsck.specs.Rules.{Used, Place, block-of}
+use Rattle.fsck.specs.Rules.{block-of}
 use Rattle.fsck.proofs.Membership.{place-has}
 use Rattle.fsck.proofs.Agreement.{SameRead, same-bytes-read, same-sound, same-free, same-file, same-content, same-in-use}
 use Rattle.update.specs.Writes.{Write, after-write}

@@ -1,9 +1,9 @@
 -- The entry-write law: an entry replaced by bytes that are fit for it leaves a sound disk, and changes the files under its old and its new name alone. Assumes nothing.
 use mathlib.Core.Path.{_≡_, refl, sym, ap, subst, _∙_}
-use mathlib.Core.Bool.{Bool, true, false}
-use mathlib.Core.List.{List, [], _∷_, _++_}
-use mathlib.Core.Logic.{_⊎_, inl, inr, ⊎-elim}
-use Prim.Native.Nat.{ℕ, zero, suc, _+_, _*_, _/_, _<_, _≤_}
+use mathlib.Core.Bool.{true}
+use mathlib.Core.List.{List}
+use mathlib.Core.Logic.{_⊎_, ⊎-elim}
+use Prim.Native.Nat.{ℕ, _+_, _*_, _/_, _<_, _≤_}
 use native.Mathlib.Omega.{arith}
 use lib.ListN.{length, getD}
 use Rattle.std.specs.Options.{mapped}
@@ -13,11 +13,11 @@ use Rattle.std.proofs.shelf.Tests.{cases-eq, cases-lt}
 use Rattle.layout.specs.declared.name.Name.{Name}
 use Rattle.layout.specs.declared.entry.Entry.{Entry}
 use Rattle.layout.specs.Entries.{as-name, decoded, blocks-of}
-use Rattle.layout.specs.Files.{entry-bytes, entry-at, block, content, find, entry-of, file}
-use Rattle.layout.specs.Words.{Named, First, NoFile}
+use Rattle.layout.specs.Files.{entry-bytes, entry-at, block, content, find, file}
+use Rattle.layout.specs.Words.{Named, First}
 use Rattle.layout.proofs.Finding.{find-first, first-unique, entry-of-here, entry-of-none, no-file}
 use Rattle.fsck.specs.Blocks.{size}
-use Rattle.fsck.specs.Rules.{Used, Place, block-of, SoundTo, Sound}
+use Rattle.fsck.specs.Rules.{Used, Place, block-of, Sound}
 use Rattle.fsck.proofs.Agreement.{same-content}
 use Rattle.fsck.proofs.Contents.{sound-long}
 use Rattle.update.specs.Writes.{after-write, entry-write}

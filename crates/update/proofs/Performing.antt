@@ -1,18 +1,16 @@
 -- Requests performed one after the other. Assumes nothing.
 use mathlib.Core.Path.{_≡_, refl, sym, ap, subst, _∙_}
-use mathlib.Core.Bool.{Bool, true, false, cond, _&&_}
+use mathlib.Core.Bool.{true, false, cond, _&&_}
 use mathlib.Core.List.{List, [], _∷_}
 use mathlib.Core.Logic.{⊎-elim}
 use Prim.Native.Nat.{ℕ}
-use native.Mathlib.Omega.{arith}
 use Rattle.std.proofs.shelf.Tests.{cases-bool, cond-true, cond-false, and-left, and-right, and-cases}
 use Rattle.fsck.specs.Sound.{sound}
 use Rattle.update.specs.declared.answer.Done.{Done}
 use Rattle.update.specs.Answers.{good-name, good-file, ask-refusal, put-refusal}
 use Rattle.update.specs.Putting.{room-for}
 use Rattle.update.specs.Asking.{refusal, roomy}
-use Rattle.update.specs.Requests.{Asked, put, away, writes, may, step, after}
-use Rattle.update.specs.Writes.{after-writes}
+use Rattle.update.specs.Requests.{Asked, put, away, may, step, after}
 use Rattle.update.specs.Said.{Says}
 use Rattle.update.proofs.Sequences.{Lawful, sound-step}
 use Rattle.update.proofs.TakingAway.{away-lawful}

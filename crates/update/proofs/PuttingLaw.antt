@@ -1,12 +1,11 @@
 -- Putting a file is data writes into free blocks and then one entry write, so it is lawful. Assumes nothing.
-use mathlib.Core.Path.{_≡_, refl, sym, ap, subst, _∙_}
-use mathlib.Core.Bool.{Bool, true, false, cond, _&&_}
+use mathlib.Core.Path.{_≡_, sym, ap, subst, _∙_}
+use mathlib.Core.Bool.{Bool, true, false, _&&_}
 use mathlib.Core.List.{List, [], _∷_, _++_}
 use mathlib.Core.Logic.{⊎-elim}
 use Prim.Native.Nat.{ℕ, zero, suc, _+_, _*_, _/_, min, _<_, _≤_}
-use native.Mathlib.Nat.{add-suc, suc-add}
 use native.Mathlib.Omega.{arith}
-use lib.Dec.{eqb, leb, ltb}
+use lib.Dec.{leb, ltb}
 use lib.ListN.{length, getD, take, drop, length-append, length-take}
 use Rattle.std.specs.shelf.Text.{sameBytes}
 use Rattle.std.specs.declared.option.Option.the-variants.{Some, None}
@@ -15,14 +14,13 @@ use Rattle.std.proofs.shelf.Lists.{getD-take}
 use Rattle.std.proofs.shelf.Tests.{cases-bool, cases-lt, cond-true, cond-false, both-ways, and-parts, and-from, leb-true, ltb-true, eqb-true, lt-ltb, le-ltb}
 use Rattle.std.proofs.shelf.Ways.{not-from-decides}
 use Rattle.layout.specs.declared.name.Name.{Name}
-use Rattle.layout.specs.declared.entry.Entry.{Entry}
 use Rattle.layout.specs.Entries.{as-name, decoded, encoded, needs, blocks-of}
 use Rattle.layout.specs.Files.{entry-at, find, file, content}
 use Rattle.layout.specs.Words.{Named}
 use Rattle.layout.proofs.Finding.{find-first}
 use Rattle.fsck.specs.Blocks.{size, blocks-to, in-use, free, has}
 use Rattle.fsck.specs.Sound.{sound}
-use Rattle.fsck.specs.Rules.{Used, Place, block-of, Sound}
+use Rattle.fsck.specs.Rules.{Sound}
 use Rattle.fsck.proofs.Membership.{has-at, place-has}
 use Rattle.fsck.proofs.Deciding.{sound-to-rules}
 use Rattle.fsck.proofs.Contents.{sound-long}
@@ -31,10 +29,9 @@ use Rattle.fsck.proofs.Agreement.{same-free}
 use Rattle.update.specs.Answers.{good-name, good-file}
 use Rattle.update.specs.Writes.{Write, after-writes, entry-write}
 use Rattle.update.specs.Putting.{padded, data-writes, chosen, unused-from, place-for, new-entry, put-writes, room-for}
-use Rattle.update.specs.Requests.{Asked, put, writes, may, step, done, changed}
+use Rattle.update.specs.Requests.{put, writes, may, step, done, changed}
 use Rattle.update.specs.Plans.{nth-write}
-use Rattle.update.specs.Promise.{AllOrNothing, FewWrites, RoomBack}
-use Rattle.update.proofs.Places.{Fits}
+use Rattle.update.specs.Promise.{FewWrites, RoomBack}
 use Rattle.update.proofs.EntryLaw.{Fit}
 use Rattle.update.proofs.DataWrites.{DataAll, Planned, Unseen, planned-sound, planned-unseen, planned-other, planned-new}
 use Rattle.update.proofs.NewFile.{OnDisk, length-padded, length-data-writes, length-entry, entry-used, entry-name, entry-len, entry-blocks, entry-flag, content-put}

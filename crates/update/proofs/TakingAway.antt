@@ -1,20 +1,19 @@
 -- Taking a file away is one entry write, or none. Assumes nothing.
-use mathlib.Core.Path.{_≡_, refl, sym, ap, subst, _∙_}
-use mathlib.Core.Bool.{Bool, true, false, cond, _&&_}
+use mathlib.Core.Path.{_≡_, refl, sym, ap, _∙_}
+use mathlib.Core.Bool.{Bool, true, false, _&&_}
 use mathlib.Core.List.{List, [], _∷_}
 use mathlib.Core.Logic.{⊎-elim}
-use Prim.Native.Nat.{ℕ, zero, suc, _+_, _*_, _<_, _≤_}
+use Prim.Native.Nat.{ℕ, _<_, _≤_}
 use native.Mathlib.Omega.{arith}
-use lib.Dec.{eqb, leb, ltb}
+use lib.Dec.{eqb, leb}
 use lib.ListN.{length, getD, drop, length-drop}
 use Rattle.std.specs.shelf.Text.{sameBytes}
-use Rattle.std.specs.declared.option.Option.the-variants.{Some, None}
 use Rattle.std.proofs.shelf.Equals.{sameBytes-decides}
-use Rattle.std.proofs.shelf.Tests.{cases-bool, cases-lt, cond-true, cond-false, both-ways, false≢true, lt-ltb, le-ltb, le-leb, lt-leb}
+use Rattle.std.proofs.shelf.Tests.{cases-bool, cases-lt, cond-true, cond-false, false≢true, lt-ltb, le-ltb, le-leb, lt-leb}
 use Rattle.std.proofs.shelf.Ways.{not-from-decides}
 use Rattle.layout.specs.declared.entry.Entry.{Entry}
 use Rattle.layout.specs.Entries.{decoded}
-use Rattle.layout.specs.Files.{entry-bytes, entry-at, find, file}
+use Rattle.layout.specs.Files.{entry-bytes, find, file}
 use Rattle.layout.specs.Words.{Named}
 use Rattle.layout.proofs.Finding.{find-first, no-file, length-entry-bytes}
 use Rattle.fsck.specs.Sound.{sound}
@@ -22,9 +21,9 @@ use Rattle.fsck.specs.Rules.{Sound}
 use Rattle.fsck.proofs.Deciding.{sound-to-rules, rules-to-sound}
 use Rattle.fsck.proofs.Contents.{sound-entry}
 use Rattle.update.specs.Answers.{good-name}
-use Rattle.update.specs.Writes.{Write, after-write, after-writes, entry-write}
-use Rattle.update.specs.Requests.{Asked, away, take-writes, writes, may, step, done, changed}
-use Rattle.update.specs.Promise.{AllOrNothing, FewWrites}
+use Rattle.update.specs.Writes.{after-write, after-writes, entry-write}
+use Rattle.update.specs.Requests.{away, take-writes, writes, may, step, done, changed}
+use Rattle.update.specs.Promise.{FewWrites}
 use Rattle.update.proofs.Places.{after-none, after-one, after-nothing}
 use Rattle.update.proofs.EntryLaw.{Fit, EntryReplaced, entry-replaced, at-here, sound-after-entry, file-other, file-gone}
 use Rattle.update.proofs.Sequences.{Lawful}

@@ -1,6 +1,4 @@
 // Requests as values, performed one after the other.
-ghost use mathlib.Core.Path.{_≡_};
-ghost use mathlib.Core.Bool.{true, false};
 ghost use mathlib.Core.List.{map};
 ghost use Rattle.fsck.specs.Sound.{sound};
 ghost use Rattle.update.specs.Asking.{asked, refusal, roomy};

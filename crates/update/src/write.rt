@@ -5,7 +5,6 @@ ghost use Prim.Native.Nat.{_+_, _*_, _-_, _≤_, _<_};
 ghost use lib.Dec.{ltb};
 ghost use lib.ListN.{length};
 ghost use Rattle.layout.specs.Files.{block};
-ghost use Rattle.layout.specs.Parts.{replaced};
 ghost use Rattle.update.specs.Writes.{after-write, entry-write};
 use layout::disk::Disk;
 

@@ -1,6 +1,6 @@
 use mathlib.Core.Path.{_≡_, refl, sym, ap, subst, _∙_}
-use mathlib.Core.List.{List, [], _∷_, _++_, append-nil}
-use Prim.Native.Nat.{ℕ, _+_}
+use mathlib.Core.List.{[], _∷_, _++_, append-nil}
+use Prim.Native.Nat.{_+_}
 use lib.ListN.{drop}
 use Rattle.std.specs.Of.Vec.{vec-items}
 use Rattle.std.specs.Options.{mapped}
@@ -10,7 +10,7 @@ use Rattle.std.proofs.shelf.Parts.{pushed}
 use Rattle.console.specs.declared.escape.Escape.{Escape}
 use Rattle.console.specs.declared.escape.Escape.the-variants.{Plain, Slash, High, Low}
 use Rattle.console.specs.Names.{ended}
-use Rattle.console.proofs.Spelling.{Spelt, spelt-none, spelt-more, spelt-bad, spelt-all}
+use Rattle.console.proofs.Spelling.{Spelt, spelt-more, spelt-bad, spelt-all}
 use Rattle.console.proofs.escape.unescape.Needs as need
 use Rattle.console.proofs.escape.unescape.Needs.{in-Some-spelled·in-Continue-push, in-rest-spelled}
 

@@ -1,12 +1,11 @@
 use mathlib.Core.Path.{_≡_, sym, ap, subst, _∙_}
 use mathlib.Core.Bool.{true}
-use Prim.Native.Nat.{ℕ, suc, _+_, _<_, _≤_}
+use Prim.Native.Nat.{suc, _+_, _≤_}
 use native.Mathlib.Numerals.{add-one}
 use native.Mathlib.Omega.{arith}
 use lib.ListN.{length}
 use Rattle.std.proofs.shelf.Tests.{and-from, le-leb, lt-ltb}
-use Rattle.fsck.specs.Sets.{member}
-use Rattle.fsck.specs.Blocks.{size, blocks-to, has}
+use Rattle.fsck.specs.Blocks.{blocks-to, has}
 use Rattle.fsck.specs.Sound.{sound, sound-to}
 use Rattle.fsck.proofs.Deciding.{sound-decides}
 use Rattle.fsck.proofs.Judging.{sound-to-none, sound-to-more, fault-size, fault-at, fault-none, twins-found}

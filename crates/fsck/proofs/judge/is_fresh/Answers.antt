@@ -1,7 +1,7 @@
-use mathlib.Core.Path.{_≡_, sym, ap, _∙_}
+use mathlib.Core.Path.{sym, ap, _∙_}
 use mathlib.Core.Bool.{not, _&&_}
 use native.Mathlib.Omega.{arith}
-use lib.Dec.{leb, ltb}
+use lib.Dec.{leb}
 use Rattle.std.proofs.shelf.Tests.{and-left, and-right, lt-leb, le-leb, le-ltb, lt-ltb}
 use Rattle.fsck.specs.Sets.{member}
 use Rattle.fsck.specs.Sound.{block-ok}

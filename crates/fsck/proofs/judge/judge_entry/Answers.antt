@@ -1,15 +1,14 @@
 use mathlib.Core.Path.{_≡_, sym, ap, subst, _∙_}
 use mathlib.Core.Bool.{Bool, true, false, _&&_, _||_}
 use mathlib.Core.List.{List}
-use Prim.Native.Nat.{ℕ, _*_, _/_, _<_, _≤_}
-use native.Mathlib.Omega.{arith}
+use Prim.Native.Nat.{ℕ, _*_, _<_, _≤_}
 use lib.Dec.{eqb, leb}
-use lib.ListN.{length, getD}
+use lib.ListN.{getD}
 use Rattle.std.specs.declared.option.Option.the-variants.{Some}
 use Rattle.std.proofs.shelf.Tests.{false≢true, and-parts, and-left, and-right, lt-leb, le-leb, ltb-true}
 use Rattle.layout.specs.declared.entry.Entry.{Entry}
 use Rattle.layout.specs.Entries.{blocks-of}
-use Rattle.layout.specs.Files.{entry-at, entry-if, entry-bytes, find, held}
+use Rattle.layout.specs.Files.{entry-at, entry-if, entry-bytes, find}
 use Rattle.layout.proofs.Finding.{entry-if-some}
 use Rattle.fsck.specs.Sets.{member}
 use Rattle.fsck.specs.Blocks.{size, blocks-to, has}

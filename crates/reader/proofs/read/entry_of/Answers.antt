@@ -1,15 +1,13 @@
-use mathlib.Core.Path.{_≡_, refl, sym, ap, subst, _∙_}
-use mathlib.Core.Bool.{Bool, true, false}
+use mathlib.Core.Path.{_≡_, refl, subst, _∙_}
 use mathlib.Core.List.{List}
 use mathlib.Core.Logic.{⊎-elim}
-use Prim.Native.Nat.{ℕ, _<_, _≤_}
-use native.Mathlib.Omega.{arith}
+use Prim.Native.Nat.{ℕ, _≤_}
 use denote.Ref.{RefT}
 use lib.Dec.{ltb}
 use Rattle.std.specs.declared.option.Option.the-variants.{Some, None}
-use Rattle.std.proofs.shelf.Tests.{cases-lt, and-parts, and-from, lt-ltb, ltb-true, both-ways}
+use Rattle.std.proofs.shelf.Tests.{cases-lt, and-parts, ltb-true, both-ways}
 use Rattle.layout.specs.declared.name.Name.{Name}
-use Rattle.layout.specs.Files.{has-entry, has-entries, held, find, found, EntryPart}
+use Rattle.layout.specs.Files.{has-entry, has-entries, find, found, EntryPart}
 use Rattle.layout.proofs.Finding.{some-from-cond, none-from-cond}
 use Rattle.fsck.proofs.Deciding.{sound-to-rules}
 use Rattle.fsck.proofs.Contents.{sound-entry}

@@ -1,10 +1,8 @@
-use mathlib.Core.Path.{_≡_, refl, sym, ap, subst, _∙_}
+use mathlib.Core.Path.{_≡_, sym, ap, subst, _∙_}
 use mathlib.Core.Bool.{Bool, true, false, cond}
 use mathlib.Core.List.{List}
-use Prim.Native.Nat.{ℕ, _*_, _/_, _<_, _≤_, _+_}
+use Prim.Native.Nat.{ℕ, _/_, _<_, _≤_}
 use native.Mathlib.Omega.{arith}
-use lib.Dec.{ltb}
-use lib.ListN.{length}
 use Rattle.std.proofs.shelf.Tests.{cond-true, cond-false, ltb-true, ltb-false}
 use Rattle.layout.specs.Files.{find}
 use Rattle.fsck.proofs.Contents.{sound-long}
@@ -14,7 +12,7 @@ use Rattle.update.specs.Answers.{ask-refusal}
 use Rattle.update.specs.Writes.{Write, after-write, entry-write}
 use Rattle.update.specs.Requests.{away, step, done}
 use Rattle.update.specs.Said.{Says}
-use Rattle.update.proofs.Admission.{Admitted, admitted-ok, admitted-err, refused-says, found-place, found-nowhere}
+use Rattle.update.proofs.Admission.{admitted-ok, admitted-err, refused-says, found-place, found-nowhere}
 use Rattle.update.proofs.TakingAway.{unused-bytes, away-lawful, away-few, away-absent, away-cut, away-made}
 use Rattle.update.proofs.away.take_away.Needs as need
 

@@ -1,13 +1,13 @@
 use mathlib.Core.Path.{_≡_, refl, sym, ap, subst, _∙_}
 use mathlib.Core.Bool.{Bool, true, false, cond}
 use mathlib.Core.List.{List}
-use Prim.Native.Nat.{ℕ, suc, _+_, _-_, _*_, _<_, _≤_}
+use Prim.Native.Nat.{ℕ, _+_, _-_, _*_, _<_, _≤_}
 use native.Mathlib.Numerals.{add-one}
 use native.Mathlib.Omega.{arith}
 use lib.Dec.{leb}
 use lib.ListN.{length}
-use Rattle.std.specs.declared.option.Option.the-variants.{Some, None}
-use Rattle.std.proofs.shelf.Tests.{cond-true, cond-false, ltb-true, ltb-false, le-leb, lt-leb}
+use Rattle.std.specs.declared.option.Option.the-variants.{Some}
+use Rattle.std.proofs.shelf.Tests.{ltb-true, ltb-false, le-leb, lt-leb}
 use Rattle.layout.specs.declared.name.Name.{Name}
 use Rattle.fsck.specs.Sound.{sound}
 use Rattle.fsck.proofs.Deciding.{sound-to-rules}
@@ -19,7 +19,7 @@ use Rattle.update.specs.Answers.{good-name, good-file, put-refusal}
 use Rattle.update.specs.Writes.{Write, after-write, after-writes}
 use Rattle.update.specs.Putting.{put-writes, room-for}
 use Rattle.update.specs.Plans.{plan-writes, nth-write, PlanSays}
-use Rattle.update.specs.Requests.{put, writes, step, done}
+use Rattle.update.specs.Requests.{put, writes}
 use Rattle.update.specs.Said.{Says}
 use Rattle.update.proofs.Admission.{Admitted, admitted-ok, admitted-err, refused-says}
 use Rattle.update.proofs.Places.{after-nothing}

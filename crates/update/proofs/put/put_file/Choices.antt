@@ -1,6 +1,5 @@
 use mathlib.Core.Path.{_≡_}
 use Prim.Native.Nat.{_-_, _≤_}
-use lib.ListN.{length}
 use Rattle.update.specs.Writes.{after-writes}
 use Rattle.update.specs.Plans.{plan-writes}
 use Rattle.update.proofs.put.put_file.Given as given

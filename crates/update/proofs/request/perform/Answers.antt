@@ -1,5 +1,4 @@
 use mathlib.Core.Path.{_≡_, sym, ap, subst}
-use Rattle.update.specs.declared.request.Request.the-variants.{Put, Away}
 use Rattle.update.specs.Asking.{asked, refusal, roomy}
 use Rattle.update.specs.Requests.{put, away}
 use Rattle.update.specs.Promise.{AllOrNothing, FewWrites}

@@ -1,7 +1,7 @@
 use mathlib.Core.Path.{_≡_, sym, ap, subst, _∙_}
-use mathlib.Core.Bool.{true, false}
-use mathlib.Core.List.{List, [], _∷_, map}
-use Prim.Native.Nat.{ℕ, _+_}
+use mathlib.Core.Bool.{true}
+use mathlib.Core.List.{[], _∷_, map}
+use Prim.Native.Nat.{_+_}
 use lib.ListN.{getD, drop}
 use Rattle.std.proofs.shelf.Lists.{at-drop-more, at-drop-all}
 use Rattle.layout.specs.Files.{file}
@@ -9,7 +9,7 @@ use Rattle.fsck.specs.Sound.{sound}
 use Rattle.update.specs.declared.request.Request.{Request}
 use Rattle.update.specs.declared.request.Request.the-variants.{Put}
 use Rattle.update.specs.Asking.{asked}
-use Rattle.update.specs.Requests.{Asked, after}
+use Rattle.update.specs.Requests.{after}
 use Rattle.update.proofs.Sequences.{as-done}
 use Rattle.update.proofs.Performing.{lawful, Sofar, sofar-more, after-no-more}
 use Rattle.update.proofs.request.perform_all.Needs as need

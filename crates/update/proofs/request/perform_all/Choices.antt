@@ -1,10 +1,6 @@
-use mathlib.Core.Path.{_≡_}
-use mathlib.Core.Bool.{true, false}
 use mathlib.Core.List.{map}
 use lib.ListN.{drop}
-use Rattle.fsck.specs.Sound.{sound}
 use Rattle.update.specs.Asking.{asked}
-use Rattle.update.specs.Requests.{after}
 use Rattle.update.proofs.Performing.{Sofar}
 use Rattle.update.proofs.request.perform_all.Given as given
 

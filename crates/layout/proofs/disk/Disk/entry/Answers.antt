@@ -1,11 +1,10 @@
-use mathlib.Core.Path.{_≡_, sym, ap, _∙_}
-use Prim.Native.Nat.{ℕ, _*_, _≤_}
+use mathlib.Core.Path.{sym, ap, _∙_}
 use native.Mathlib.Omega.{arith}
 use lib.ListN.{length}
 use Rattle.std.specs.declared.option.Option.the-variants.{Some}
-use Rattle.std.proofs.shelf.Tests.{cond-true, and-parts, leb-true, ltb-true}
+use Rattle.std.proofs.shelf.Tests.{cond-true}
 use Rattle.layout.specs.Entries.{decoded}
-use Rattle.layout.specs.Files.{entry-at, entry-bytes, held}
+use Rattle.layout.specs.Files.{entry-at}
 use Rattle.layout.proofs.Finding.{length-entry-bytes}
 use Rattle.layout.proofs.disk.Disk.entry.Needs as need
 

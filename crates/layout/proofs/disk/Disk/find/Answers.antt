@@ -1,9 +1,9 @@
-use mathlib.Core.Path.{_≡_, sym, ap, _∙_}
+use mathlib.Core.Path.{sym, ap, _∙_}
 use Prim.Native.Nat.{_<_}
 use native.Mathlib.Omega.{arith}
 use Rattle.layout.specs.declared.entry.Entry.{Entry}
 use Rattle.layout.specs.declared.name.Name.{Name}
-use Rattle.layout.specs.Files.{held, has-entries, entry-at}
+use Rattle.layout.specs.Files.{held}
 use Rattle.layout.specs.Words.{First}
 use Rattle.layout.proofs.Finding.{find-first, entry-if-some, found-at, found-none}
 use Rattle.layout.proofs.disk.Disk.find.Needs as need

@@ -1,9 +1,8 @@
 use mathlib.Core.Path.{_≡_, refl, ap, _∙_}
-use mathlib.Core.Bool.{Bool, true, false, cond}
+use mathlib.Core.Bool.{cond}
 use mathlib.Core.List.{[], _∷_}
-use Prim.Native.Nat.{ℕ, _/_, _%_}
-use native.Mathlib.Omega.{arith}
-use lib.ListN.{length, take}
+use Prim.Native.Nat.{_/_, _%_}
+use lib.ListN.{length}
 use borrow.Author.Needs.{needs}
 use Rattle.layout.specs.Entries.{decoded}
 use Rattle.layout.proofs.Codec.{fields-in-place, decoded-encoded}

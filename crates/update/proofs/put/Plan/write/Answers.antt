@@ -1,14 +1,13 @@
-use mathlib.Core.Path.{_≡_, sym, ap, subst, _∙_}
+use mathlib.Core.Path.{_≡_, sym, ap, _∙_}
 use mathlib.Core.List.{List, [], _∷_, _++_}
-use Prim.Native.Nat.{ℕ, _+_, _*_, min, _<_, _≤_}
+use Prim.Native.Nat.{ℕ, _+_, min, _<_}
 use native.Mathlib.Nat.{mul-comm}
 use native.Mathlib.Omega.{arith}
 use lib.ListN.{length, getD, take, drop, length-take, length-append}
 use borrow.Author.Needs.{needs}
-use Rattle.std.specs.declared.option.Option.the-variants.{Some, None}
+use Rattle.std.specs.declared.option.Option.the-variants.{Some}
 use Rattle.std.proofs.shelf.Lists.{getD-take}
 use Rattle.update.specs.declared.put.Plan.{Plan}
-use Rattle.update.specs.Writes.{Write}
 use Rattle.update.specs.Putting.{padded, data-writes}
 use Rattle.update.specs.Plans.{plan-writes, nth-write}
 use Rattle.update.proofs.NewFile.{length-data-writes}
