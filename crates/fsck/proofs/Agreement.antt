@@ -65,20 +65,6 @@ unfolding entry-ok
 entry-ok-flag d i isn't = flag-alone _ _ _ isn't
 
 module _ (d e : List ℕ) (r : SameRead d e) where
-  -- an entry in use on the second disk is in use on the first
-  used-there : (i : ℕ) → i < 16 → Used e i → Used d i
-  used-there i lt is = sym (r .used i lt) ∙ is
-
-  pub same-read-sym : SameRead e d
-  same-read-sym = record {
-    long = sym (r .long);
-    flag = λ i lt. sym (r .flag i lt);
-    used = λ i lt. sym (r .used i lt);
-    name = λ i lt is. sym (r .name i lt (used-there i lt is));
-    len = λ i lt is. sym (r .len i lt (used-there i lt is));
-    blocks = λ i lt is. sym (r .blocks i lt (used-there i lt is));
-  }
-
   pub same-size : size e ≡ size d
   unfolding size
   same-size = ap (λ n. n / 64) (r .long)

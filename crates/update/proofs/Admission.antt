@@ -7,7 +7,6 @@ use Prim.Native.Nat.{ℕ, _<_, _≤_}
 use native.Mathlib.Omega.{arith}
 use lib.Dec.{ltb}
 use Rattle.std.specs.Options.{okOr}
-use Rattle.std.specs.declared.option.Option.{Option}
 use Rattle.std.specs.declared.option.Option.the-variants.{Some, None}
 use Rattle.std.specs.declared.result.Result.{Result}
 use Rattle.std.specs.declared.result.Result.the-variants.{Ok, Err}
@@ -91,19 +90,15 @@ refused-says BadName d a room = (refl, refl)
 refused-says TooLong d a room = (refl, refl)
 refused-says Unreadable d a room = (refl, refl)
 
--- the place of the name's entry, on a disk that was seen through a view
-module _ (d x v : List ℕ) (n : Name) (in′ : Admitted d x n) (same : v ≡ d) where
-  found-here : (o : Option ℕ) → o ≡ found v (n .bytes) → o ≡ found d x
-  found-here o is = is ∙ (λ j. found (same j) (in′ .name j .bytes))
+-- the place of the name's entry, on a sound disk
+pub found-place : (d x : List ℕ) (i : ℕ) → Some i ≡ found d x → (i ≡ find d x) × (find d x < 16)
+found-place d x i is =
+    let known = some-from-cond (has-entry d (find d x)) i (find d x) is in
+    (known .1, ltb-true (find d x) 16 (and-parts (has-entries d) (ltb (find d x) 16) (known .0) .1))
 
-  pub found-place : (i : ℕ) → Some i ≡ found v (n .bytes) → (i ≡ find d x) × (find d x < 16)
-  found-place i is =
-      let known = some-from-cond (has-entry d (find d x)) i (find d x) (found-here (Some i) is) in
-      (known .1, ltb-true (find d x) 16 (and-parts (has-entries d) (ltb (find d x) 16) (known .0) .1))
-
-  pub found-nowhere : None ≡ found v (n .bytes) → 16 ≤ find d x
-  found-nowhere is =
-      ⊎-elim
-      (λ lt. absurd (both-ways _ (none-from-cond _ _ (found-here None is)) (sound-entry d 16 (find d x) (sound-to-rules d (in′ .sound-disk)) lt)))
-      (λ ge. ge)
-      (cases-lt (find d x) 16)
+pub found-nowhere : (d x : List ℕ) → sound d ≡ true → None ≡ found d x → 16 ≤ find d x
+found-nowhere d x ok is =
+    ⊎-elim
+    (λ lt. absurd (both-ways _ (none-from-cond _ _ is) (sound-entry d 16 (find d x) (sound-to-rules d ok) lt)))
+    (λ ge. ge)
+    (cases-lt (find d x) 16)

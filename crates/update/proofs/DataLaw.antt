@@ -5,7 +5,7 @@ use mathlib.Core.List.{List}
 use Prim.Native.Nat.{ℕ, _<_, _≤_}
 use native.Mathlib.Omega.{arith}
 use Rattle.std.proofs.shelf.Tests.{both-ways}
-use Rattle.layout.specs.Files.{entry-bytes, entry-at, block, file}
+use Rattle.layout.specs.Files.{entry-bytes, entry-at, file}
 use Rattle.fsck.specs.Blocks.{blocks-to, in-use, free, has}
 use Rattle.fsck.specs.Sound.{sound}
 use Rattle.fsck.specs.Rules.{block-of}

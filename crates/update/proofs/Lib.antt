@@ -11,3 +11,4 @@ pub mod PlanWrites
 pub mod PuttingLaw
 pub mod Counted
 pub mod Performing
+pub mod Beginning

@@ -20,23 +20,23 @@ pub lawful : (d : List ℕ) (a : Asked) → Lawful d a
 lawful d (put x c n) = put-lawful d x c n
 lawful d (away x n) = away-lawful d x n
 
-ask-unsound : (d x : List ℕ) → sound d ≡ false → ask-refusal d x ≡ 1
+pub ask-unsound : (d x : List ℕ) → sound d ≡ false → ask-refusal d x ≡ 1
 unfolding ask-refusal
 ask-unsound d x bad = cond-false _ _ _ bad
 
-ask-good : (d x : List ℕ) → sound d ≡ true → good-name x ≡ true → ask-refusal d x ≡ 0
+pub ask-good : (d x : List ℕ) → sound d ≡ true → good-name x ≡ true → ask-refusal d x ≡ 0
 unfolding ask-refusal
 ask-good d x ok good = cond-true _ _ _ ok ∙ cond-true _ _ _ good
 
-ask-bad : (d x : List ℕ) → sound d ≡ true → good-name x ≡ false → ask-refusal d x ≡ 2
+pub ask-bad : (d x : List ℕ) → sound d ≡ true → good-name x ≡ false → ask-refusal d x ≡ 2
 unfolding ask-refusal
 ask-bad d x ok bad = cond-true _ _ _ ok ∙ cond-false _ _ _ bad
 
-put-unsound : (d x c : List ℕ) → sound d ≡ false → put-refusal d x c ≡ 1
+pub put-unsound : (d x c : List ℕ) → sound d ≡ false → put-refusal d x c ≡ 1
 unfolding put-refusal
 put-unsound d x c bad = cond-false _ _ _ bad
 
-put-bad : (d x c : List ℕ) → sound d ≡ true → good-name x ≡ false → put-refusal d x c ≡ 2
+pub put-bad : (d x c : List ℕ) → sound d ≡ true → good-name x ≡ false → put-refusal d x c ≡ 2
 unfolding put-refusal
 put-bad d x c ok bad = cond-true _ _ _ ok ∙ cond-false _ _ _ bad
 
@@ -95,9 +95,6 @@ pub record Sofar (d : List ℕ) (rs : List Asked) (now : List ℕ) (left : List 
   pub still : sound d ≡ true → sound now ≡ true
   pub rest : sound d ≡ true → after now left ≡ after d rs
   pub untouched : sound d ≡ false → now ≡ d
-
-pub sofar-none : (d : List ℕ) (rs : List Asked) → Sofar d rs d rs
-sofar-none d rs = record { still = λ ok. ok; rest = λ ok. refl; untouched = λ bad. refl }
 
 pub sofar-more : (d : List ℕ) (rs : List Asked) (now : List ℕ) (a : Asked) (left : List Asked) (r : Done) (next : List ℕ) → Sofar d rs now (a ∷ left) → Says (refusal now a) now a (roomy now a) r next → Sofar d rs next left
 unfolding after

@@ -4,6 +4,8 @@ use mathlib.Core.List.{List, [], _∷_, _++_}
 use Prim.Native.Nat.{ℕ, zero, suc, _+_, _-_, _*_, min, _<_, _≤_}
 use native.Mathlib.Omega.{arith}
 use lib.ListN.{length, getD, take, drop, replicate, length-drop}
+use Rattle.std.specs.Vec.{listOf}
+use Rattle.std.specs.declared.option.Option.{Option}
 use Rattle.std.specs.declared.option.Option.the-variants.{Some, None}
 use Rattle.std.proofs.shelf.Lists.{drop-drop, drop-all, drop-replicate}
 use Rattle.layout.proofs.Slices.{take-min}
@@ -16,9 +18,16 @@ nth-front [] ws k lt = absurd (omega arith)
 nth-front (v ∷ vs) ws zero lt = refl
 nth-front (v ∷ vs) ws (suc k) lt = nth-front vs ws k (omega arith)
 
-pub nth-last : (vs : List Write) (w : Write) → nth-write (vs ++ w ∷ []) (length vs) ≡ Some w
-nth-last [] w = refl
-nth-last (v ∷ vs) w = nth-last vs w
+-- behind the others comes the last, if there is one
+pub nth-last : (vs : List Write) (o : Option Write) → nth-write (vs ++ listOf o) (length vs) ≡ o
+nth-last [] None = refl
+nth-last [] (Some w) = refl
+nth-last (v ∷ vs) o = nth-last vs o
+
+pub length-with-last : (vs : List Write) (o : Option Write) → length (vs ++ listOf o) ≤ suc (length vs)
+length-with-last [] None = omega arith
+length-with-last [] (Some w) = omega arith
+length-with-last (v ∷ vs) o = omega (arith, length-with-last vs o)
 
 pub nth-past : (ws : List Write) (k : ℕ) → length ws ≤ k → nth-write ws k ≡ None
 nth-past [] k le = refl

@@ -29,7 +29,7 @@ use Rattle.fsck.proofs.Agreement.{same-free}
 use Rattle.update.specs.Answers.{good-name, good-file}
 use Rattle.update.specs.Writes.{Write, after-writes, entry-write}
 use Rattle.update.specs.Putting.{padded, data-writes, chosen, unused-from, place-for, new-entry, put-writes, room-for}
-use Rattle.update.specs.Requests.{put, writes, may, step, done, changed}
+use Rattle.update.specs.Requests.{put, writes, may, done, changed}
 use Rattle.update.specs.Plans.{nth-write}
 use Rattle.update.specs.Promise.{FewWrites, RoomBack}
 use Rattle.update.proofs.EntryLaw.{Fit}
@@ -76,10 +76,6 @@ module _ (d x c : List ℕ) (s : Sound d) (good : good-name x ≡ true) (fits : 
   many : length (chosen d c) ≡ needs (length c)
   unfolding chosen
   many = let h = enough in simp length-take (omega arith)
-
-  few-blocks : needs (length c) ≤ 16
-  unfolding needs
-  few-blocks = let h = short in omega arith
 
   chosen-at : (k : ℕ) → k < length (chosen d c) → getD (chosen d c) k 0 ≡ getD (free d) k 0
   unfolding chosen
@@ -242,7 +238,7 @@ put-fits d x c s good fits room k w is =
     absurd (let b : ⊥ = omega arith in b))
     (λ le.
     let at : k ≡ length vs = omega arith in
-    let same : Some w ≡ Some last = is ∙ ap (nth-write (vs ++ last ∷ [])) at ∙ nth-last vs last in
+    let same : Some w ≡ Some last = is ∙ ap (nth-write (vs ++ last ∷ [])) at ∙ nth-last vs (Some last) in
     let to : w .to ≡ place-for d x / 2 = cc in
     let long = sound-long d 16 s in
     let in′ = place-in d x c s good fits room in
@@ -255,10 +251,6 @@ module _ (d x c : List ℕ) (n : ℕ) (good : good-name x ≡ true) (fits : good
   pub put-may : may d (put x c n) ≡ true
   unfolding may
   put-may = and-from _ _ good (and-from _ _ fits room)
-
-  pub put-step : after-writes n d (put-writes d x c) ≡ step d (put x c n)
-  unfolding step writes
-  put-step = sym (cond-true _ _ _ put-may)
 
   pub put-done : (b : Bool) → leb (length (put-writes d x c)) n ≡ b → done d (put x c n) ≡ b
   unfolding done writes

@@ -1,15 +1,15 @@
 -- Taking a file away is one entry write, or none. Assumes nothing.
 use mathlib.Core.Path.{_≡_, refl, sym, ap, _∙_}
-use mathlib.Core.Bool.{Bool, true, false, _&&_}
+use mathlib.Core.Bool.{true}
 use mathlib.Core.List.{List, [], _∷_}
 use mathlib.Core.Logic.{⊎-elim}
 use Prim.Native.Nat.{ℕ, _<_, _≤_}
 use native.Mathlib.Omega.{arith}
-use lib.Dec.{eqb, leb}
+use lib.Dec.{eqb}
 use lib.ListN.{length, getD, drop, length-drop}
 use Rattle.std.specs.shelf.Text.{sameBytes}
 use Rattle.std.proofs.shelf.Equals.{sameBytes-decides}
-use Rattle.std.proofs.shelf.Tests.{cases-bool, cases-lt, cond-true, cond-false, false≢true, lt-ltb, le-ltb, le-leb, lt-leb}
+use Rattle.std.proofs.shelf.Tests.{cases-bool, cases-lt, cond-true, cond-false, false≢true, lt-ltb, le-ltb}
 use Rattle.std.proofs.shelf.Ways.{not-from-decides}
 use Rattle.layout.specs.declared.entry.Entry.{Entry}
 use Rattle.layout.specs.Entries.{decoded}
@@ -20,9 +20,8 @@ use Rattle.fsck.specs.Sound.{sound}
 use Rattle.fsck.specs.Rules.{Sound}
 use Rattle.fsck.proofs.Deciding.{sound-to-rules, rules-to-sound}
 use Rattle.fsck.proofs.Contents.{sound-entry}
-use Rattle.update.specs.Answers.{good-name}
 use Rattle.update.specs.Writes.{after-write, after-writes, entry-write}
-use Rattle.update.specs.Requests.{away, take-writes, writes, may, step, done, changed}
+use Rattle.update.specs.Requests.{away, take-writes, writes, changed}
 use Rattle.update.specs.Promise.{FewWrites}
 use Rattle.update.proofs.Places.{after-none, after-one, after-nothing}
 use Rattle.update.proofs.EntryLaw.{Fit, EntryReplaced, entry-replaced, at-here, sound-after-entry, file-other, file-gone}
@@ -131,28 +130,3 @@ away-few d x n _ =
     (λ lt. let one : length (writes d (away x n)) ≡ 1 = ap length (writes-present d x n lt) in omega arith)
     (λ ge. let none : length (writes d (away x n)) ≡ 0 = ap length (writes-absent d x n ge) in omega arith)
     (cases-lt (find d x) 16)
-
--- the disk after the request, and whether it was done
-module _ (d x : List ℕ) (n : ℕ) (good : good-name x ≡ true) where
-  begun : step d (away x n) ≡ after-writes n d (writes d (away x n))
-  unfolding step may
-  begun = cond-true _ _ d good
-
-  done-by-count : (b : Bool) → leb (length (writes d (away x n))) n ≡ b → done d (away x n) ≡ b
-  unfolding done may
-  done-by-count b is = (λ j. good j && leb (length (writes d (away x n))) n) ∙ is
-
-  pub away-absent : 16 ≤ find d x → (d ≡ step d (away x n)) × (done d (away x n) ≡ true)
-  away-absent ge =
-      let none : length (writes d (away x n)) ≡ 0 = ap length (writes-absent d x n ge) in
-      (sym (begun ∙ ap (after-writes n d) (writes-absent d x n ge) ∙ after-none n d), done-by-count true (le-leb _ n (omega arith)))
-
-  pub away-cut : find d x < 16 → n ≡ 0 → (d ≡ step d (away x n)) × (done d (away x n) ≡ false)
-  away-cut lt none =
-      let one : length (writes d (away x n)) ≡ 1 = ap length (writes-present d x n lt) in
-      (sym (begun ∙ ap (λ k. after-writes k d (writes d (away x n))) none ∙ after-nothing d _), done-by-count false (lt-leb _ n (omega arith)))
-
-  pub away-made : find d x < 16 → 1 ≤ n → (after-write d (entry-write d (find d x) (unused-bytes d (find d x))) ≡ step d (away x n)) × (done d (away x n) ≡ true)
-  away-made lt some =
-      let one : length (writes d (away x n)) ≡ 1 = ap length (writes-present d x n lt) in
-      (sym (begun ∙ ap (after-writes n d) (writes-present d x n lt) ∙ after-one n d _ some), done-by-count true (le-leb _ n (omega arith)))

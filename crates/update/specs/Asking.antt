@@ -1,7 +1,8 @@
 -- A request of the code, and what it asks. Assumes nothing.
-use mathlib.Core.Bool.{Bool, true}
+use mathlib.Core.Bool.{Bool, true, _&&_}
 use mathlib.Core.List.{List}
 use Prim.Native.Nat.{ℕ}
+use lib.Dec.{eqb}
 use Rattle.update.specs.declared.request.Request.{Request}
 use Rattle.update.specs.declared.request.Request.the-variants.{Put, Away}
 use Rattle.update.specs.Answers.{ask-refusal, put-refusal}
@@ -21,3 +22,7 @@ refusal d (away x n) = ask-refusal d x
 abbrev pub roomy : List ℕ → Asked → Bool
 roomy d (put x c n) = room-for d x c
 roomy d (away x n) = true
+
+-- whether it is begun: not refused, and with room
+abbrev pub begun : List ℕ → Asked → Bool
+begun d a = eqb (refusal d a) 0 && roomy d a

@@ -3,6 +3,7 @@ pub mod admit;
 pub mod answer;
 pub mod away;
 mod choose;
+pub mod plan;
 pub mod put;
 pub mod request;
 #[cfg(test)]

@@ -4,7 +4,7 @@ ghost use mathlib.Core.Bool.{cond};
 ghost use Prim.Native.Nat.{_+_, _*_, _-_, _≤_, _<_};
 ghost use lib.Dec.{ltb};
 ghost use lib.ListN.{length};
-ghost use Rattle.layout.specs.Files.{block};
+ghost use Rattle.fsck.specs.Blocks.{size};
 ghost use Rattle.update.specs.Writes.{after-write, entry-write};
 use layout::disk::Disk;
 
@@ -30,6 +30,20 @@ pub(crate) fn write_block(disk: &mut [u8], write: &Write)
 {
     let at = write.to * Disk::BLOCK;
     fill(&mut disk[at..at + Disk::BLOCK], &write.bytes);
+}
+
+impl Write {
+    // Makes the write on a disk in memory; false, and nothing changed, where its block isn't on the disk.
+    pub fn make(&self, disk: &mut [u8]) -> bool
+        ensures made { λ r. ⌜ r ≡ ltb (now (self .entry) .to) (size (now (disk .entry))) ⌝ }
+        ensures disk { λ r. ⌜ now (disk .exit) ≡ cond r (after-write (now (disk .entry)) (now (self .entry))) (now (disk .entry)) ⌝ }
+    {
+        if self.to >= disk.len() / Disk::BLOCK {
+            return false;
+        }
+        write_block(disk, self);
+        true
+    }
 }
 
 // The same while power lasts, which then lasts for one write less; false, and nothing written, once it has failed.

@@ -1,24 +1,40 @@
-use mathlib.Core.Path.{_≡_, sym, ap, subst}
+use mathlib.Core.Path.{sym, subst, _∙_}
+use mathlib.Core.Bool.{cond}
+use Prim.Native.Nat.{_≤_}
+use lib.Dec.{leb}
+use lib.ListN.{length}
+use Rattle.update.specs.declared.answer.Done.the-variants.{Finished, Cut}
+use Rattle.update.specs.Writes.{after-writes}
 use Rattle.update.specs.Asking.{asked, refusal, roomy}
-use Rattle.update.specs.Requests.{put, away}
-use Rattle.update.specs.Promise.{AllOrNothing, FewWrites}
+use Rattle.update.specs.Plans.{OnDisk}
+use Rattle.update.specs.Requests.{lasts}
 use Rattle.update.specs.Said.{Says}
 use Rattle.update.proofs.Sequences.{as-done-next}
 use Rattle.update.proofs.Performing.{lawful, says-step}
+use Rattle.update.proofs.Beginning.{accepted, few-writes, on-disk, says-begun}
 use Rattle.update.proofs.request.perform.Needs as need
 
-pub returns-in-Put : need.returns-in-Put
-returns-in-Put c =
+pub carry-out-requires : need.carry-out-requires
+carry-out-requires c κs =
     let d = c .args .disk .now in
     let a = asked (c .args .request) in
-    let is : put (c .in-Put .name .now) (c .in-Put .content .now) (c .in-Put .lasts) ≡ a = sym (ap asked (c .in-Put .is)) in
-    let says : Says (refusal d a) d a (roomy d a) (c .put-file .result) (c .put-file .last .disk) = subst (λ r. Says (refusal d r) d r (roomy d r) (c .put-file .result) (c .put-file .last .disk)) is (c .put-file .ensures .says) in
-    record { says = says; promise = as-done-next lawful d a _ (λ ok. says-step d a _ _ ok says); whole = subst (AllOrNothing d) is (c .put-file .ensures .whole); few = subst (FewWrites d) is (c .put-file .ensures .few) }
+    let told = c .in-Ok .ensures tt in
+    let in′ = accepted d a (told .0) in
+    record { few = subst (λ ws. length ws ≤ 17) (sym (told .1)) (few-writes d a (in′ .may-be)); fit = subst (OnDisk d) (sym (told .1)) (on-disk d a in′) }
 
-pub returns-in-Away : need.returns-in-Away
-returns-in-Away c =
+pub returns-in-Ok : need.returns-in-Ok
+returns-in-Ok c =
     let d = c .args .disk .now in
     let a = asked (c .args .request) in
-    let is : away (c .in-Away .name .now) (c .in-Away .lasts) ≡ a = sym (ap asked (c .in-Away .is)) in
-    let says : Says (refusal d a) d a (roomy d a) (c .take-away .result) (c .take-away .last .disk) = subst (λ r. Says (refusal d r) d r (roomy d r) (c .take-away .result) (c .take-away .last .disk)) is (c .take-away .ensures .says) in
-    record { says = says; promise = as-done-next lawful d a _ (λ ok. says-step d a _ _ ok says); whole = subst (AllOrNothing d) is (c .take-away .ensures .whole); few = subst (FewWrites d) is (c .take-away .ensures .few) }
+    let told = c .in-Ok .ensures tt in
+    let says : Says (refusal d a) d a (roomy d a) (c .carry-out .result) (c .carry-out .last .disk) = says-begun d a _ _ (accepted d a (told .0))
+    (c .carry-out .ensures .disk ∙ (λ j. after-writes (c .lasts .ensures j) d (told .1 j)))
+    (c .carry-out .ensures .answer ∙ (λ j. cond (leb (length (told .1 j)) (c .lasts .ensures j)) Finished Cut)) in
+    record { says = says; promise = as-done-next lawful d a _ (λ ok. says-step d a _ _ ok says); whole = lawful d a .whole; few = few-writes d a }
+
+pub returns-in-Err : need.returns-in-Err
+returns-in-Err c =
+    let d = c .args .disk .now in
+    let a = asked (c .args .request) in
+    let says = c .in-Err .ensures tt .1 in
+    record { says = says; promise = as-done-next lawful d a _ (λ ok. says-step d a _ _ ok says); whole = lawful d a .whole; few = few-writes d a }

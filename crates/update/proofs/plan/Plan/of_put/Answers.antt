@@ -15,9 +15,9 @@ use Rattle.fsck.proofs.Deciding.{sound-to-rules}
 use Rattle.fsck.proofs.Contents.{sound-long}
 use Rattle.update.specs.Writes.{entry-write}
 use Rattle.update.specs.Putting.{padded, data-writes, chosen, place-for, new-entry, put-writes, room-for}
-use Rattle.update.specs.Plans.{plan-writes, PlanSays}
+use Rattle.update.specs.Plans.{plan-writes, PutPlan}
 use Rattle.update.proofs.NewFile.{take-padded}
-use Rattle.update.proofs.put.Plan.new.Needs as need
+use Rattle.update.proofs.plan.Plan.of_put.Needs as need
 
 pub returns-in-Break-i : need.returns-in-Break-i
 unfolding room-for
@@ -25,7 +25,7 @@ returns-in-Break-i c =
     let d = c .args .disk .now in
     let x = c .args .name .bytes in
     let full = none-from-cond (ltb (place-for d x) 16) (place-for d x) (c .in-Break-i .ensures tt) in
-    subst (PlanSays d x (c .args .content .now)) (sym (c .from-residual .ensures)) (and-left _ _ full)
+    subst (PutPlan d x (c .args .content .now)) (sym (c .from-residual .ensures)) (and-left _ _ full)
 
 pub choose-blocks-requires : need.choose-blocks-requires
 choose-blocks-requires c κs = (c .pre .0, c .blocks-needed-needed .ensures .fewest .least 16 (omega (arith, c .pre .1)))
@@ -36,7 +36,7 @@ returns-in-Break-blocks c =
     let d = c .args .disk .now in
     let x = c .args .name .bytes in
     let full = none-from-cond (leb (c .blocks-needed-needed .result) (length (free d))) _ (c .in-Break-blocks .ensures tt) in
-    subst (PlanSays d x (c .args .content .now)) (sym (c .from-residual-in-Break-blocks .ensures))
+    subst (PutPlan d x (c .args .content .now)) (sym (c .from-residual-in-Break-blocks .ensures))
     (and-right (ltb (place-for d x) 16) _ (ap (λ n. leb n (length (free d))) (sym (c .blocks-needed-needed .ensures .value)) ∙ full))
 
 -- the place that was chosen

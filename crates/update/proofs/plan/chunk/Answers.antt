@@ -4,7 +4,7 @@ use Prim.Native.Nat.{_+_, _-_}
 use native.Mathlib.Omega.{arith}
 use lib.ListN.{take, drop, replicate}
 use Rattle.update.proofs.PlanWrites.{chunk-is, chunk-none}
-use Rattle.update.proofs.put.chunk.Needs as need
+use Rattle.update.proofs.plan.chunk.Needs as need
 
 pub returns-then-at-content : need.returns-then-at-content
 returns-then-at-content c =

@@ -6,7 +6,7 @@ use lib.ListN.{take, drop}
 use Rattle.std.proofs.shelf.Lists.{drop-drop, drop-take}
 use Rattle.layout.specs.Files.{entry-bytes}
 use Rattle.update.specs.Writes.{entry-write}
-use Rattle.update.proofs.away.write_without.Needs as need
+use Rattle.update.proofs.plan.write_without.Needs as need
 
 -- all but the first byte of an entry
 rest-of-entry : (d : List ℕ) (i : ℕ) → take 31 (drop (i * 32 + 1) d) ≡ drop 1 (entry-bytes d i)
