@@ -1,2 +1,10 @@
+pub mod Bodies
+pub mod BytesRead
+pub mod Commands
+pub mod Digits
+pub mod Endings
+pub mod Printing
+pub mod ReadBack
+pub mod LinesRead
 pub mod Scans
 pub mod Spelling

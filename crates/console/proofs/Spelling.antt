@@ -17,16 +17,13 @@ pub record Spelt (text done : List ℕ) (state : Escape) (left : List ℕ) : Typ
   pub begun : Begun state
   pub rest : mapped (λ bs. done ++ bs) (spelled state left) ≡ spelled Plain text
 
-mapped-same : (o : Option (List ℕ)) → mapped (λ bs. [] ++ bs) o ≡ o
+pub mapped-same : (o : Option (List ℕ)) → mapped (λ bs. [] ++ bs) o ≡ o
 mapped-same None = refl
 mapped-same (Some bs) = refl
 
-mapped-twice : (xs ys : List ℕ) (o : Option (List ℕ)) → mapped (λ bs. xs ++ bs) (mapped (λ bs. ys ++ bs) o) ≡ mapped (λ bs. (xs ++ ys) ++ bs) o
+pub mapped-twice : (xs ys : List ℕ) (o : Option (List ℕ)) → mapped (λ bs. xs ++ bs) (mapped (λ bs. ys ++ bs) o) ≡ mapped (λ bs. (xs ++ ys) ++ bs) o
 mapped-twice xs ys None = refl
 mapped-twice xs ys (Some bs) = ap Some (sym (append-assoc xs ys bs))
-
-pub spelt-none : (text : List ℕ) → Spelt text [] Plain text
-spelt-none text = record { begun = tt; rest = mapped-same (spelled Plain text) }
 
 module _ (text done : List ℕ) (state : Escape) (i : ℕ) (so-far : Spelt text done state (drop i text)) where
   one-on : i < length text → spelled state (drop i text) ≡ onward (λ t. spelled t (drop (i + 1) text)) (step state (getD text i 0))

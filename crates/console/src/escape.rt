@@ -10,7 +10,7 @@ use std::alloc::AllocError;
 use std::alloc::Global;
 
 // The base of hexadecimal digits.
-const RADIX: u8 = 0x10;
+pub(crate) const RADIX: u8 = 0x10;
 
 // What was read of an escape.
 #[derive(Clone, Copy)]

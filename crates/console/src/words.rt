@@ -6,7 +6,7 @@ ghost use Rattle.std.specs.shelf.Lists.{leading};
 ghost use Rattle.console.specs.Words.{blank, ink, from-ink, to-ink, trimmed, word, behind, in-line, without-return, first-line, other-lines};
 
 // A blank is a space or a tab.
-fn is_blank(b: u8) -> bool
+pub(crate) fn is_blank(b: u8) -> bool
     ensures { λ r. ⌜ r ≡ blank b ⌝ }
 {
     b == b' ' || b == b'\t'

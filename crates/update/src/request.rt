@@ -33,7 +33,7 @@ pub enum Request<'a> {
 
 impl Request<'_> {
     // For how many writes power lasts.
-    fn lasts(&self) -> u64
+    pub fn lasts(&self) -> u64
         ensures { λ r. ⌜ r ≡ lasts (asked (now (self .entry))) ⌝ }
     {
         match *self {

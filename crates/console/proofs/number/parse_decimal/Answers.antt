@@ -5,16 +5,13 @@ use lib.ListN.{length, getD, drop}
 use Rattle.std.proofs.shelf.Tests.{eqb-false}
 use Rattle.std.specs.declared.option.Option.the-variants.{Some, None}
 use Rattle.std.proofs.shelf.Lists.{at-drop-more, at-drop-all}
-use Rattle.console.specs.Numbers.{one-more, more-digits, decimal}
+use Rattle.console.specs.Numbers.{one-more, more-digits}
+use Rattle.console.proofs.Digits.{decimal-of-some}
 use Rattle.console.proofs.number.parse_decimal.Needs as need
 
 more-none : (bs : List ℕ) → more-digits None bs ≡ None
 more-none [] = refl
 more-none (b ∷ bs) = refl
-
-decimal-of-some : (bs : List ℕ) → (length bs ≡ 0 → ⊥) → more-digits (Some 0) bs ≡ decimal bs
-decimal-of-some [] some = absurd (some refl)
-decimal-of-some (b ∷ bs) some = refl
 
 step : (w : List ℕ) (n i : ℕ) → i < length w → more-digits (Some n) (drop i w) ≡ more-digits (one-more n (getD w i 0)) (drop (i + 1) w)
 step w n i lt = at-drop-more (more-digits (Some n)) w i 0 lt
