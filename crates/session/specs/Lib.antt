@@ -1,0 +1,4 @@
+pub mod Printed
+pub mod Obeyed
+pub mod Kept
+pub mod Prints
