@@ -5,4 +5,5 @@ pub mod Logging
 pub mod Named
 pub mod Obeying
 pub mod Ranges
+pub mod Stopping
 pub mod Texts

@@ -2,11 +2,15 @@
 use mathlib.Core.Path.{_≡_}
 use mathlib.Core.Bool.{true}
 use mathlib.Core.List.{List}
+use mathlib.Core.Logic.{_⊎_}
 use Prim.Native.Nat.{ℕ}
+use lib.ListN.{length}
 use Rattle.std.specs.declared.option.Option.{Option}
 use Rattle.std.specs.declared.option.Option.the-variants.{None}
 use Rattle.layout.specs.Files.{file}
 use Rattle.fsck.specs.Sound.{sound}
+use Rattle.update.specs.declared.write.Write.{Write}
+use Rattle.update.specs.Writes.{after-writes}
 use Rattle.update.specs.Requests as r
 use Rattle.update.specs.Promise.{AsDoneNext}
 use Rattle.console.specs.Commands.{Said, disk, power, put, away, read, entry, list, check, unread, map-of, bad}
@@ -25,3 +29,23 @@ Kept d p check d₁ = d₁ ≡ d
 Kept d p unread d₁ = d₁ ≡ d
 Kept d p map-of d₁ = d₁ ≡ d
 Kept d p (bad o q l) d₁ = d₁ ≡ d
+
+-- another medium with the same disk, on which these writes are made one after the other, stopped after any number of them: it is a sound disk, and has under every name the file from before the command or the one from after it; with all writes made it is the disk from after it
+pub record Stopped (d : List ℕ) (ws : List Write) (d₁ : List ℕ) : Type 0 where
+  pub sound-there : sound d ≡ true → (k : ℕ) → sound (after-writes k d ws) ≡ true
+  pub either : sound d ≡ true → (k : ℕ) (y : List ℕ) → (file (after-writes k d ws) y ≡ file d y) ⊎ (file (after-writes k d ws) y ≡ file d₁ y)
+  pub all : after-writes (length ws) d ws ≡ d₁
+
+-- so it is with the writes of every command but one for a new disk
+abbrev pub StoppedAt : Said → (disk : List ℕ) → List Write → (disk₁ : List ℕ) → Type 0
+StoppedAt (disk n l) d ws d₁ = Unit {0}
+StoppedAt (put x c) d ws d₁ = Stopped d ws d₁
+StoppedAt (away x) d ws d₁ = Stopped d ws d₁
+StoppedAt (power n) d ws d₁ = Stopped d ws d₁
+StoppedAt (read x) d ws d₁ = Stopped d ws d₁
+StoppedAt (entry x) d ws d₁ = Stopped d ws d₁
+StoppedAt list d ws d₁ = Stopped d ws d₁
+StoppedAt check d ws d₁ = Stopped d ws d₁
+StoppedAt unread d ws d₁ = Stopped d ws d₁
+StoppedAt map-of d ws d₁ = Stopped d ws d₁
+StoppedAt (bad o q l) d ws d₁ = Stopped d ws d₁

@@ -11,7 +11,7 @@ ghost use Rattle.std.specs.declared.option.Option.the-variants.{None};
 ghost use Rattle.fsck.specs.Sound.{sound};
 ghost use Rattle.update.specs.Asking.{asked};
 ghost use Rattle.console.specs.Commands.{said};
-ghost use Rattle.session.specs.Kept.{Kept};
+ghost use Rattle.session.specs.Kept.{Kept, StoppedAt};
 ghost use Rattle.session.specs.Obeyed.{lasting, uses-power, judges, fault-of, size-fits, new-disk, made-writes, asked-of, disk-after, power-after, writes-of};
 ghost use Rattle.session.specs.Prints.{RequestPrints, Shown, Shows, Prints, Behind};
 use crate::answers::push_answer;
@@ -182,6 +182,7 @@ impl Session {
         ensures power { λ r. ⌜ made r (λ _. now (self .exit) .power ≡ power-after (now (self .entry) .power) (said (now (command .entry)))) ⌝ }
         ensures log { λ r. ⌜ made r (λ _. vec-items (now (log .exit)) ≡ vec-items (now (log .entry)) ++ writes-of (vec-items (now (self .entry) .disk)) (now (self .entry) .power) (said (now (command .entry)))) ⌝ }
         ensures out { λ r. ⌜ made r (λ _. Behind (vec-items (now (out .entry))) (vec-items (now (out .exit))) (Prints (vec-items (now (self .entry) .disk)) (now (self .entry) .power) (said (now (command .entry))))) ⌝ }
+        ensures stopped { λ r. ⌜ made r (λ _. StoppedAt (said (now (command .entry))) (vec-items (now (self .entry) .disk)) (writes-of (vec-items (now (self .entry) .disk)) (now (self .entry) .power) (said (now (command .entry)))) (vec-items (now (self .exit) .disk))) ⌝ }
         ensures promise { λ r. ⌜ made r (λ _. Kept (vec-items (now (self .entry) .disk)) (now (self .entry) .power) (said (now (command .entry))) (vec-items (now (self .exit) .disk))) ⌝ }
     {
         let lasts = self.take_power(command);

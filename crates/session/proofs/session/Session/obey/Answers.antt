@@ -16,6 +16,7 @@ use Rattle.session.specs.Prints.{RequestPrints, Shows, ShowsIf, Prints}
 use Rattle.session.proofs.Asking.{made-anyway}
 use Rattle.session.proofs.Keeping.{kept}
 use Rattle.session.proofs.Obeying.{made-then, power-left, fault-found, idle-unsound, idle-shown}
+use Rattle.session.proofs.Stopping.{stopped-at}
 use Rattle.session.proofs.session.Session.obey.Needs as need
 
 -- what is printed where no fault is found
@@ -39,6 +40,7 @@ returns-in-Some c =
       log = made-anyway o (sym (append-nil log) ∙ ap (λ l. log ++ l) (idle .no-write));
       out = made-then _ _ o (λ _ is. record { text = refused-line Unsound (c .in-Some .place); fits = subst (λ f. ShowsIf f (refused-line Unsound (c .in-Some .place)) (Shows d p s (refused-line Unsound (c .in-Some .place)))) found refl; put-behind = is }) (c .push-refused .ensures);
       promise = made-anyway o (kept d p s _ (ap vec-items (taken .disk) ∙ idle .same-disk));
+      stopped = made-anyway o (stopped-at d p s _ (ap vec-items (taken .disk) ∙ idle .same-disk));
     }
 
 -- a new disk, or the one that was there
@@ -60,6 +62,7 @@ returns-then-branch c =
       log = sym (append-nil log) ∙ ap (λ t. log ++ writes-of d p t) (sym is);
       out = record { text = []; fits = subst (λ t. Prints d p t []) (sym is) (sym (cond-true (size-fits n) _ _ fits)); put-behind = sym (append-nil _) };
       promise = kept d p _ _ left;
+      stopped = stopped-at d p _ _ left;
     }
 
 pub returns-else-branch : need.returns-else-branch
@@ -81,6 +84,7 @@ returns-else-branch c =
       log = made-anyway o (sym (append-nil log) ∙ ap (λ t. log ++ writes-of d p t) (sym is));
       out = made-then _ _ o (λ _ behind. record { text = refused-line Unsound 16; fits = subst (λ t. Prints d p t (refused-line Unsound 16)) (sym is) (sym (cond-false (size-fits n) _ _ unfit)); put-behind = behind }) (c .push-refused-in-Disk .ensures);
       promise = made-anyway o (kept d p _ _ left);
+      stopped = made-anyway o (stopped-at d p _ _ left);
     }
 
 pub returns-in-Power : need.returns-in-Power
@@ -97,6 +101,7 @@ returns-in-Power c =
       log = sym (append-nil log) ∙ ap (λ t. log ++ writes-of d p t) (sym is);
       out = record { text = []; fits = subst (λ t. Prints d p t []) (sym is) refl; put-behind = sym (append-nil _) };
       promise = kept d p _ _ left;
+      stopped = stopped-at d p _ _ left;
     }
 
 pub returns-in-Put : need.returns-in-Put
@@ -126,6 +131,7 @@ returns-in-Put c =
           record { text = t; fits = unless-fault (fault-of d s) t (Shows d p s t) none (subst (λ u. Shows d p u t) (sym is) shown); put-behind = behind .put-behind })
           (c .ask .ensures .out);
       promise = made-then _ _ o (λ _ so. kept d p s _ so) left;
+      stopped = made-then _ _ o (λ _ so. stopped-at d p s _ so) left;
     }
 
 pub returns-in-Away : need.returns-in-Away
@@ -154,6 +160,7 @@ returns-in-Away c =
           record { text = t; fits = unless-fault (fault-of d s) t (Shows d p s t) none (subst (λ u. Shows d p u t) (sym is) shown); put-behind = behind .put-behind })
           (c .ask-in-Away .ensures .out);
       promise = made-then _ _ o (λ _ so. kept d p s _ so) left;
+      stopped = made-then _ _ o (λ _ so. stopped-at d p s _ so) left;
     }
 
 pub returns-in-rest-command : need.returns-in-rest-command
@@ -178,4 +185,5 @@ returns-in-rest-command c =
           record { text = t; fits = unless-fault (fault-of d s) t (Shows d p s t) none (subst (λ v. Shows (vec-items v) p s t) (taken .disk) (behind .fits)); put-behind = behind .put-behind })
           (c .show .ensures);
       promise = made-anyway o (kept d p s _ (ap vec-items (taken .disk) ∙ idle .same-disk));
+      stopped = made-anyway o (stopped-at d p s _ (ap vec-items (taken .disk) ∙ idle .same-disk));
     }
