@@ -42,6 +42,7 @@ check "map" "########aab.
 status 0" "$(run a.img map)"
 check "read" "status 0" "$(run a.img read ROSE back)"
 check "the same bytes" "$(cat first)" "$(cat back)"
+check "why" "dernoalf: none: there is no file of this name" "$("$program" a.img read TULIP back 2>&1)"
 check "no such file" "status 1" "$(run a.img read TULIP back)"
 check "away" "done
 status 0" "$(run a.img away LEAF)"
@@ -74,6 +75,7 @@ cp b.img b.copy
 check "not sound" "refused 1 at 3
 refused 1 at 3
 refused 4 at 3" "$(printf 'put X\n01\naway X\ndisk 9\n' | "$program" b.img)"
+check "where it isn't sound" "dernoalf: refused 1 at 3: the disk is not sound, first at this entry, or at 16 for its size" "$("$program" b.img list 2>&1)"
 check "left alone" "same" "$(cmp -s b.img b.copy && echo same)"
 head -c 100 /dev/zero > c.img
 check "no whole blocks" "status 1" "$(run c.img list)"

@@ -77,10 +77,10 @@ impl Failure {
             Failure::Memory => err.println("dernoalf: out of memory"),
             Failure::System(file, error) => err.println(format_args!("dernoalf: {file}: {error}")),
             Failure::Stream(error) => err.println(format_args!("dernoalf: {error}")),
-            Failure::NotDone(said) => err.println(format_args!(
-                "dernoalf: {}",
-                reason(said.as_slice())
-            )),
+            Failure::NotDone(said) => {
+                let line = from_utf8(said.as_slice()).unwrap_or("").trim_end();
+                err.println(format_args!("dernoalf: {line}: {}", reason(said.as_slice())))
+            }
             Failure::Usage => err.print(USAGE),
         };
     }

@@ -64,17 +64,28 @@ impl Run {
             return Ok(());
         }
         self.log.clear();
+        let printed = self.out.len();
         self.session.obey(command, &mut self.out, &mut self.log)?;
-        if let Some(image) = &mut self.image {
-            if let Command::Disk(..) = command {
-                if !self.session.disk().is_empty() {
-                    image.make(rt, self.session.disk())?;
-                }
-            } else {
-                image.write(rt, self.log.as_slice())?;
-            }
+        let kept = self.keep(rt, command);
+        if kept.is_err() {
+            // What the image doesn't have is not said to be done.
+            self.out.truncate(printed);
         }
-        Ok(())
+        kept
+    }
+
+    // Makes on the image what the command made in memory.
+    fn keep(&mut self, rt: &LibcRuntime, command: &Command) -> Result<(), Failure> {
+        let Some(image) = &mut self.image else {
+            return Ok(());
+        };
+        if let Command::Disk(..) = command {
+            if self.session.disk().is_empty() {
+                return Ok(());
+            }
+            return image.make(rt, self.session.disk());
+        }
+        image.write(rt, self.log.as_slice())
     }
 
     fn print(&mut self, rt: &LibcRuntime) -> Result<(), Failure> {
