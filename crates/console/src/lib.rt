@@ -1,4 +1,6 @@
 // The command text: what its lines spell.
+#![tactic(auto)]
+
 pub mod bytes;
 pub mod command;
 pub mod escape;

@@ -1,4 +1,6 @@
 // The program: commands over a disk in memory, or over an image file.
+#![tactic(auto)]
+
 mod failure;
 mod image;
 mod run;

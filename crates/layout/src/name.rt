@@ -2,6 +2,8 @@
 ghost use Rattle.std.specs.Prelude.{◌≡◌, Decides};
 ghost use Rattle.layout.specs.Entries.{named};
 ghost use Rattle.std.specs.Cmp.Rules.{comparing};
+ghost use Rattle.std.specs.Ordering.{on};
+ghost use Rattle.std.specs.Str.{bytes_eq};
 ghost use Rattle.std.proofs.Common.{rules};
 
 #[derive(Clone, Copy)]
@@ -26,11 +28,14 @@ impl Name {
 }
 
 impl PartialEq for Name {
-    ghost equals = { λ a b r. Decides r (a ≡ b) };
+    ghost eq = { on (λ n. n.bytes) bytes_eq };
 
     ghost laws = { Prim.search (comparing, rules) };
 
-    fn eq(&self, other: &Name) -> bool {
+    fn eq(&self, other: &Name) -> bool
+        ensures value { result ≡ bytes_eq self.now.bytes other.now.bytes }
+        ensures equal { Decides result (self.now ≡ other.now) }
+    {
         self.bytes == other.bytes
     }
 }

@@ -1,4 +1,6 @@
 // Random requests with power failing at each of their writes, beside a map of files that knows nothing of blocks.
+#![tactic(auto)]
+
 mod change;
 mod compare;
 mod machine;

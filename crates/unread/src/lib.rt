@@ -1,4 +1,6 @@
 // The places of a disk that the old machine doesn't read.
+#![tactic(auto)]
+
 mod extent;
 pub mod place;
 pub mod runs;

@@ -1,4 +1,6 @@
 // Requests on a disk: what they write, what they answer, and when they are refused.
+#![tactic(auto)]
+
 pub mod admit;
 pub mod answer;
 pub mod away;

@@ -6,7 +6,7 @@ use Rattle.console.specs.declared.escape.Escape.TheVariants.{Plain, Slash, High,
 use Rattle.console.specs.Names.{ended}
 use Rattle.console.proofs.Spelling.{Spelt, spelt_more, spelt_bad, spelt_all}
 use Rattle.console.proofs.escape.unescape.Goals as goal
-use Rattle.console.proofs.escape.unescape.Goals.{in-Some-spelled+in-ok-push, in-default-spelled}
+use Rattle.console.proofs.escape.unescape.Goals.{in-Some-spelled+in_ok-push, in-default-spelled}
 
 not_ended : (s : Escape) → (s ≡ Plain → ⊥) → ended s ≡ None
 not_ended Plain other = absurd (other refl)
@@ -24,8 +24,8 @@ loop-b-preserved c =
     let done = vec_items c.loop-b.bytes in
     let more = spelt_more text done c.loop-b.state i c.loop-b.invariant c.in-Some.next c.in-Some.spelled c.loop-b-test.true c.in-Some.ensures.value c.in-Some.ensures.begun in
     let bytes : done ++ option_to_list c.in-Some.spelled ≡ vec_items c.match-spelled.bytes = elim c.match-spelled.branch [
-      | in-Some-spelled+in-ok-push w ↦
-          ap (λ o. done ++ option_to_list o) w.in-Some-spelled.is ∙ sym (ap vec_items w.bytes-is ∙ pushed (w.in-Some-spelled.byte ∷ []) refl w.in-ok-push.was w.push.ensures.items)
+      | in-Some-spelled+in_ok-push w ↦
+          ap (λ o. done ++ option_to_list o) w.in-Some-spelled.is ∙ sym (ap vec_items w.bytes-is ∙ pushed (w.in-Some-spelled.byte ∷ []) refl w.in_ok-push.was w.push.ensures.items)
       | in-default-spelled w ↦ ap (λ o. done ++ option_to_list o) w.in-default-spelled.is ∙ append-nil done ∙ sym (ap vec_items w.bytes-is)
     ] in
     subst (λ bs. Spelt text bs c.in-Some.next (drop (i + 1) text)) bytes more

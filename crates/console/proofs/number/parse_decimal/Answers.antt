@@ -12,21 +12,21 @@ more_none (b ∷ bs) = refl
 step : (w : List ℕ) (n i : ℕ) → i < length w → more_digits (Some n) (drop i w) ≡ more_digits (one_more n (get_or w i 0)) (drop (i + 1) w)
 step w n i lt = at_drop_more (more_digits (Some n)) w i 0 lt
 
-pub returns-in-err-n : goal.returns-in-err-n
-returns-in-err-n c =
+pub returns-in_err-n : goal.returns-in_err-n
+returns-in_err-n c =
     let w = c.args.word.now in
     let i = c.loop-b.b-index in
-    c.from-residual.ensures ∙ sym (more_none (drop (i + 1) w)) ∙ ap (λ o. more_digits o (drop (i + 1) w)) c.in-err-n.ensures
-    ∙ sym (step w c.loop-b.n i c.loop-b-test.true) ∙ c.loop-b.invariant ∙ decimal_of_some w (eqb-false (length w) 0 (sym c.is-empty.ensures ∙ c.if-is-empty.false))
+    c.from-residual.ensures ∙ sym (more_none (drop (i + 1) w)) ∙ ap (λ o. more_digits o (drop (i + 1) w)) c.in_err-n.ensures
+    ∙ sym (step w c.loop-b.n i c.loop-b-test.true) ∙ c.loop-b.invariant ∙ decimal_of_some w (eqb-false (length w) 0 (sym c.is_empty.ensures ∙ c.if-is_empty.false))
 
 pub loop-b-preserved : goal.loop-b-preserved
 loop-b-preserved c =
     let w = c.args.word.now in
     let i = c.loop-b.b-index in
-    ap (λ o. more_digits o (drop (i + 1) w)) c.in-ok-n.ensures ∙ sym (step w c.loop-b.n i c.loop-b-test.true) ∙ c.loop-b.invariant
+    ap (λ o. more_digits o (drop (i + 1) w)) c.in_ok-n.ensures ∙ sym (step w c.loop-b.n i c.loop-b-test.true) ∙ c.loop-b.invariant
 
 pub returns : goal.returns
 returns c =
     let w = c.args.word.now in
     sym (at_drop_all (more_digits (Some c.loop-b.n)) w c.loop-b.b-index c.loop-b-test.false) ∙ c.loop-b.invariant
-    ∙ decimal_of_some w (eqb-false (length w) 0 (sym c.is-empty.ensures ∙ c.if-is-empty.false))
+    ∙ decimal_of_some w (eqb-false (length w) 0 (sym c.is_empty.ensures ∙ c.if-is_empty.false))

@@ -9,4 +9,4 @@ made_from_items (Err e) was now ys zs same is = tt
 
 pub returns : goal.returns
 unfolding shown_byte
-returns c = made_from_items c.extend-from-slice.result _ _ _ _ (λ i. c.hex_digit.ensures i ∷ c.hex-digit-2.ensures i ∷ []) c.extend-from-slice.ensures.items
+returns c = made_from_items c.extend_from_slice.result _ _ _ _ (λ i. c.hex_digit.ensures i ∷ c.hex_digit-2.ensures i ∷ []) c.extend_from_slice.ensures.items

@@ -11,13 +11,13 @@ loop-i-init c = refl
 pub loop-i-preserved : goal.loop-i-preserved
 loop-i-preserved c =
     shown_more _ c.args.bytes.now _ c.loop-i.i c.loop-i.invariant c.gap.result _ c.loop-i-test.true c.gap.ensures
-    (pushed (c.gap.result ∷ []) c.in-ok-push-byte.ensures c.in-ok-push.was c.push.ensures.items)
+    (pushed (c.gap.result ∷ []) c.in_ok-push_byte.ensures c.in_ok-push.was c.push.ensures.items)
 
-pub returns-in-err-push-byte : goal.returns-in-err-push-byte
-returns-in-err-push-byte c = record { text = search rules; back = bytes_read_back c.args.bytes.now (λ k. (c.type-inv.bytes k).fits) }
+pub returns-in_err-push_byte : goal.returns-in_err-push_byte
+returns-in_err-push_byte c = record { text = search rules; back = bytes_read_back c.args.bytes.now (λ k. (c.type-inv.bytes k).fits) }
 
-pub returns-in-err-push : goal.returns-in-err-push
-returns-in-err-push c = record { text = search rules; back = bytes_read_back c.args.bytes.now (λ k. (c.type-inv.bytes k).fits) }
+pub returns-in_err-push : goal.returns-in_err-push
+returns-in_err-push c = record { text = search rules; back = bytes_read_back c.args.bytes.now (λ k. (c.type-inv.bytes k).fits) }
 
 pub returns : goal.returns
 unfolding shown_bytes

@@ -7,4 +7,4 @@ pub returns : goal.returns
 unfolding escaped
 returns c =
     let digits = shown_byte c.args.b in
-    made_same c.push-byte.result _ _ _ (ap (λ l. l ++ digits) c.in-ok-extend-from-slice.ensures.items ∙ append_assoc _ (92 ∷ 120 ∷ []) digits) c.push-byte.ensures
+    made_same c.push_byte.result _ _ _ (ap (λ l. l ++ digits) c.in_ok-extend_from_slice.ensures.items ∙ append_assoc _ (92 ∷ 120 ∷ []) digits) c.push_byte.ensures

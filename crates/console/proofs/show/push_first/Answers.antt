@@ -9,11 +9,11 @@ unfolding shown_first
 returns-then-b-eq32 c =
     let b = c.args.b in
     let same = sym (cond-true _ (escaped b) (shown_char b) (eq-eqb b 32 c.if-b-eq32.true)) in
-    made_same c.push-escaped.result _ _ _ (ap (λ l. vec_items c.args.out.now ++ l) same) c.push-escaped.ensures
+    made_same c.push_escaped.result _ _ _ (ap (λ l. vec_items c.args.out.now ++ l) same) c.push_escaped.ensures
 
 pub returns-else-b-eq32 : goal.returns-else-b-eq32
 unfolding shown_first
 returns-else-b-eq32 c =
     let b = c.args.b in
     let same = sym (cond-false _ (escaped b) (shown_char b) (ne_eqb b 32 c.if-b-eq32.false)) in
-    made_same c.push-char.result _ _ _ (ap (λ l. vec_items c.args.out.now ++ l) same) c.push-char.ensures
+    made_same c.push_char.result _ _ _ (ap (λ l. vec_items c.args.out.now ++ l) same) c.push_char.ensures

@@ -42,6 +42,6 @@ returns c =
     let put = digit_in_front ds k (48 + m) whole so_far.some so_far.room in
     let cut = between_to_end (set ds (k - 1) (48 + m)) (k - 1) 20 (omega (arith, length-set ds (k - 1) (48 + m), whole)) in
     record {
-      text = made_extended c.extend-from-slice.result (vec_items c.args.out.now) (vec_items c.extend-from-slice.new.self) _ (shown_number n) c.extend-from-slice.ensures.items (cut ∙ put ∙ all);
+      text = made_extended c.extend_from_slice.result (vec_items c.args.out.now) (vec_items c.extend_from_slice.new.self) _ (shown_number n) c.extend_from_slice.ensures.items (cut ∙ put ∙ all);
       back = number_read_back n c.ranges.n.fits;
     }

@@ -5,4 +5,4 @@ use Rattle.console.proofs.words.skip_blanks.Goals as goal
 
 pub returns : goal.returns
 unfolding from_ink
-returns c = take_rest c.args.text.now c.blanks-before-n.result ∙ ap (λ n. drop n c.args.text.now) c.blanks-before-n.ensures.value
+returns c = take_rest c.args.text.now c.blanks_before-n.result ∙ ap (λ n. drop n c.args.text.now) c.blanks_before-n.ensures.value

@@ -7,9 +7,9 @@ pub returns : goal.returns
 unfolding word behind
 returns c =
     let line = c.args.line.now in
-    let end = c.word-len-end.result in
+    let end = c.word_len-end.result in
     let all : end - 0 ≡ end = omega arith in
     record {
-      first = ap (λ n. take n line) (all ∙ c.word-len-end.ensures.value);
-      rest = c.skip-blanks.ensures ∙ ap from_ink (take_rest line end ∙ ap (λ n. drop n line) c.word-len-end.ensures.value);
+      first = ap (λ n. take n line) (all ∙ c.word_len-end.ensures.value);
+      rest = c.skip_blanks.ensures ∙ ap from_ink (take_rest line end ∙ ap (λ n. drop n line) c.word_len-end.ensures.value);
     }

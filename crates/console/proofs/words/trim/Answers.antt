@@ -4,4 +4,4 @@ use Rattle.console.proofs.words.trim.Goals as goal
 
 pub returns : goal.returns
 unfolding trimmed
-returns c = c.drop-blanks.ensures ∙ ap to_ink c.skip-blanks.ensures
+returns c = c.drop_blanks.ensures ∙ ap to_ink c.skip_blanks.ensures

@@ -5,10 +5,10 @@ use Rattle.console.proofs.Scans.{passed_more, passed_stop, passed_end}
 use Rattle.console.proofs.words.word_len.Goals as goal
 
 pub loop-n-preserved : goal.loop-n-preserved
-loop-n-preserved c = passed_more ink _ _ c.loop-n.invariant c.loop-n-test.true (not_from_false _ (sym c.is-blank.ensures ∙ c.if-not-is-blank.true))
+loop-n-preserved c = passed_more ink _ _ c.loop-n.invariant c.loop-n-test.true (not_from_false _ (sym c.is_blank.ensures ∙ c.if-not-is_blank.true))
 
-pub returns-else-not-is-blank : goal.returns-else-not-is-blank
-returns-else-not-is-blank c = record { value = passed_stop ink _ _ c.loop-n.invariant c.loop-n-test.true (not_from_true _ (sym c.is-blank.ensures ∙ c.if-not-is-blank.false)); within = c.loop-n.invariant.0 }
+pub returns-else-not-is_blank : goal.returns-else-not-is_blank
+returns-else-not-is_blank c = record { value = passed_stop ink _ _ c.loop-n.invariant c.loop-n-test.true (not_from_true _ (sym c.is_blank.ensures ∙ c.if-not-is_blank.false)); within = c.loop-n.invariant.0 }
 
 pub returns-after-loop-n : goal.returns-after-loop-n
 returns-after-loop-n c = record { value = passed_end ink _ _ c.loop-n.invariant c.loop-n-test.false; within = c.loop-n.invariant.0 }

@@ -6,40 +6,40 @@ use Rattle.fsck.proofs.Deciding.{sound_decides}
 use Rattle.fsck.proofs.Judging.{sound_to_none, sound_to_more, fault_size, fault_at, fault_none, twins_found}
 use Rattle.fsck.proofs.judge.first_fault.Goals as goal
 
-pub returns-then-not-has-size : goal.returns-then-not-has-size
+pub returns-then-not-has_size : goal.returns-then-not-has_size
 unfolding sound
-returns-then-not-has-size c =
+returns-then-not-has_size c =
     let d = c.args.disk.now in
-    let r = fault_size d (sym c.has-size.ensures ∙ c.if-not-has-size.true) in
+    let r = fault_size d (sym c.has_size.ensures ∙ c.if-not-has_size.true) in
     record { value = r.0; judged = r.1; agrees = sound_decides d 16 (omega arith); twins = twins_found d }
 
 pub loop-i-init : goal.loop-i-init
 unfolding blocks_to
-loop-i-init c = (sound_to_none c.args.disk.now (sym c.has-size.ensures ∙ c.if-not-has-size.false), c.new-taken.ensures)
+loop-i-init c = (sound_to_none c.args.disk.now (sym c.has_size.ensures ∙ c.if-not-has_size.false), c.new-taken.ensures)
 
-pub judge-entry-requires : goal.judge-entry-requires
-judge-entry-requires c =
+pub judge_entry-requires : goal.judge_entry-requires
+judge_entry-requires c =
     let d = c.args.disk.now in
     let i = c.loop-i.i in
     let s = (sound_decides d i (omega arith)).0 c.loop-i.invariant.0 in
     let long : 512 ≤ length d = omega (arith, s.whole, s.least) in
     record { there = and_from _ _ (le-leb 512 (length d) long) (lt-ltb i 16 c.loop-i-test.true); taken = c.loop-i.invariant.1 }
 
-pub returns-then-not-judge-entry : goal.returns-then-not-judge-entry
+pub returns-then-not-judge_entry : goal.returns-then-not-judge_entry
 unfolding sound
-returns-then-not-judge-entry c =
+returns-then-not-judge_entry c =
     let d = c.args.disk.now in
-    let r = fault_at d c.loop-i.i c.loop-i-test.true c.loop-i.invariant.0 (sym c.judge-entry.ensures.value ∙ c.if-not-judge-entry.true) in
+    let r = fault_at d c.loop-i.i c.loop-i-test.true c.loop-i.invariant.0 (sym c.judge_entry.ensures.value ∙ c.if-not-judge_entry.true) in
     record { value = r.0; judged = r.1; agrees = sound_decides d 16 (omega arith); twins = twins_found d }
 
 pub loop-i-preserved : goal.loop-i-preserved
 loop-i-preserved c =
     let d = c.args.disk.now in
     let i = c.loop-i.i in
-    let ok = c.if-not-judge-entry.false in
+    let ok = c.if-not-judge_entry.false in
     let next : suc i ≡ i + 1 = sym (add-one i) in (
-      subst (λ n. sound_to d n ≡ true) next (sound_to_more d i c.loop-i.invariant.0 (sym c.judge-entry.ensures.value ∙ ok)),
-      λ k. c.judge-entry.ensures.taken ok k ∙ ap (λ n. has (blocks_to d n) k) next,
+      subst (λ n. sound_to d n ≡ true) next (sound_to_more d i c.loop-i.invariant.0 (sym c.judge_entry.ensures.value ∙ ok)),
+      λ k. c.judge_entry.ensures.taken ok k ∙ ap (λ n. has (blocks_to d n) k) next,
     )
 
 pub returns : goal.returns

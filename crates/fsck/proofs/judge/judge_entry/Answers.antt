@@ -44,15 +44,15 @@ returns-then-from-gt-LONGEST c =
     let long : 1024 < (entry_at d i).len = subst (λ (x : Entry). 1024 < x.len) same (subst (λ n. 1024 < n) c.from.ensures c.if-from-gt-LONGEST.true) in
     record { value = sym (entry_ok_used d i (flag_is d i c.if-disk-i-gt1.false) used ∙ and_left _ _ (lt-leb _ 1024 long)); taken = λ e. absurd (false≢true e) }
 
-pub returns-then-not-is-first : goal.returns-then-not-is-first
-returns-then-not-is-first c =
+pub returns-then-not-is_first : goal.returns-then-not-is_first
+returns-then-not-is_first c =
     let d = c.args.disk.now in
     let i = c.args.i in
     let same = seen d _ i c.in-Some.entry (λ j. (c.new-view.ensures j).now) c.in-Some.ensures in
     let used = used_is d i c.in-Some.entry true same c.if-not-entry.false in
     let lt = ltb-true i 16 (and_parts _ _ c.requires.there).1 in
     let other : eqb (find d (entry_at d i).name.bytes) i ≡ false =
-    sym (c.is-first.ensures lt ∙ (λ j. eqb (find (c.new-view.ensures j).now (same j).ghost_name.bytes) i)) ∙ c.if-not-is-first.true in
+    sym (c.is_first.ensures lt ∙ (λ j. eqb (find (c.new-view.ensures j).now (same j).ghost_name.bytes) i)) ∙ c.if-not-is_first.true in
     record {
       value = sym (entry_ok_used d i (flag_is d i c.if-disk-i-gt1.false) used ∙ and_right (leb (entry_at d i).len 1024) _ (and_left _ _ other));
       taken = λ e. absurd (false≢true e);
@@ -67,12 +67,12 @@ returns c =
     let used = used_is d i c.in-Some.entry true same c.if-not-entry.false in
     let lt = ltb-true i 16 (and_parts _ _ c.requires.there).1 in
     let first : eqb (find d (entry_at d i).name.bytes) i ≡ true =
-    sym (c.is-first.ensures lt ∙ (λ j. eqb (find (c.new-view.ensures j).now (same j).ghost_name.bytes) i)) ∙ c.if-not-is-first.false in
+    sym (c.is_first.ensures lt ∙ (λ j. eqb (find (c.new-view.ensures j).now (same j).ghost_name.bytes) i)) ∙ c.if-not-is_first.false in
     let short : leb (entry_at d i).len 1024 ≡ true = le-leb _ 1024 (subst (λ (x : Entry). x.len ≤ 1024) same (subst (λ n. n ≤ 1024) c.from.ensures c.if-from-gt-LONGEST.false)) in
     let blocks : blocks_of c.in-Some.entry ≡ blocks_of (entry_at d i) = ap blocks_of same in
     let taken : member c.args.taken.now ≡ has (blocks_to d i) = λ j k. c.requires.taken k j in
     record {
-      value = c.take-file.ensures.value ∙ (λ j. blocks_ok (size d) (taken j) (blocks j))
+      value = c.take_file.ensures.value ∙ (λ j. blocks_ok (size d) (taken j) (blocks j))
           ∙ (λ j. sym short j && (sym first j && blocks_ok (size d) (has (blocks_to d i)) (blocks_of (entry_at d i)))) ∙ sym (entry_ok_used d i (flag_is d i c.if-disk-i-gt1.false) used);
-      taken = λ is k. c.take-file.ensures.taken is k ∙ (λ j. has (blocks j) k || taken j k) ∙ sym (has-blocks_to_used d i k used);
+      taken = λ is k. c.take_file.ensures.taken is k ∙ (λ j. has (blocks j) k || taken j k) ∙ sym (has-blocks_to_used d i k used);
     }

@@ -7,9 +7,9 @@ use Rattle.fsck.specs.Sound.{blocks_ok}
 use Rattle.fsck.proofs.Judging.{blocks_ok_none, blocks_ok_stop, blocks_ok_more, has-take_more}
 use Rattle.fsck.proofs.judge.take_blocks.Goals as goal
 
-pub returns-then-not-is-fresh : goal.returns-then-not-is-fresh
-returns-then-not-is-fresh c = record {
-  value = sym (blocks_ok_stop c.args.size (member c.loop-b.taken) c.args.blocks.now c.loop-b.b-index c.loop-b-test.true (sym c.is-fresh.ensures ∙ c.if-not-is-fresh.true)) ∙ c.loop-b.invariant.0;
+pub returns-then-not-is_fresh : goal.returns-then-not-is_fresh
+returns-then-not-is_fresh c = record {
+  value = sym (blocks_ok_stop c.args.size (member c.loop-b.taken) c.args.blocks.now c.loop-b.b-index c.loop-b-test.true (sym c.is_fresh.ensures ∙ c.if-not-is_fresh.true)) ∙ c.loop-b.invariant.0;
   taken = λ e. absurd (false≢true e);
 }
 
@@ -17,7 +17,7 @@ pub loop-b-preserved : goal.loop-b-preserved
 loop-b-preserved c =
     let bs = c.args.blocks.now in
     let i = c.loop-b.b-index in (
-      blocks_ok_more c.args.size (member c.loop-b.taken) bs i c.loop-b-test.true (member c.insert.new.self) (sym c.is-fresh.ensures ∙ c.if-not-is-fresh.false) c.insert.ensures ∙ c.loop-b.invariant.0,
+      blocks_ok_more c.args.size (member c.loop-b.taken) bs i c.loop-b-test.true (member c.insert.new.self) (sym c.is_fresh.ensures ∙ c.if-not-is_fresh.false) c.insert.ensures ∙ c.loop-b.invariant.0,
       λ k. c.insert.ensures k ∙ ap (λ t. eqb k (get_or bs i 0) || t) (c.loop-b.invariant.1 k) ∙ has-take_more bs i k (member c.args.taken.now k) c.loop-b-test.true,
     )
 

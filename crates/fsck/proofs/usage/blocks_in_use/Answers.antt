@@ -27,8 +27,8 @@ loop-i-preserved c k =
     elim c.if-entry.branch [
       | then-entry w ↦
           let used = ap (λ (x : Entry). x.used) (sym same) ∙ w.if-entry.true in
-          let blocks : w.file-blocks.result.now ≡ blocks_of (entry_at d i) = w.file-blocks.ensures ∙ ap blocks_of same in
-          ap (λ s. member s k) w.set-is ∙ w.insert-all.ensures k ∙ (λ j. has (blocks j) k || before j) ∙ sym (has-blocks_to_used d i k used) ∙ next
+          let blocks : w.file_blocks.result.now ≡ blocks_of (entry_at d i) = w.file_blocks.ensures ∙ ap blocks_of same in
+          ap (λ s. member s k) w.set-is ∙ w.insert_all.ensures k ∙ (λ j. has (blocks j) k || before j) ∙ sym (has-blocks_to_used d i k used) ∙ next
       | else-entry w ↦
           let unused = ap (λ (x : Entry). x.used) (sym same) ∙ w.if-entry.false in
           ap (λ s. member s k) w.set-is ∙ before ∙ sym (has-blocks_to_unused d i k unused) ∙ next

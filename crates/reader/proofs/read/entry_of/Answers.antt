@@ -36,5 +36,5 @@ returns c =
     let some : Some c.in-Some.i ≡ found d x = c.in-Some.ensures.value ∙ (λ j. found (c.new-view.ensures j).now (in'.name j).bytes) in
     let known = some_from_cond (has_entry d (find d x)) c.in-Some.i (find d x) some in
     let lt = ltb-true (find d x) 16 (and_parts (has_entries d) (ltb (find d x) 16) known.0).1 in
-    let part : EntryPart c.args.disk (find d x) c.in-Some-entry-bytes.part = subst (λ i. EntryPart c.args.disk i c.in-Some-entry-bytes.part) known.1 (subst (λ (v : MutBor (List ℕ)). EntryPart v c.in-Some.i c.in-Some-entry-bytes.part) c.new-view.ensures c.in-Some-entry-bytes.ensures.1) in
+    let part : EntryPart c.args.disk (find d x) c.in-Some-entry_bytes.part = subst (λ i. EntryPart c.args.disk i c.in-Some-entry_bytes.part) known.1 (subst (λ (v : MutBor (List ℕ)). EntryPart v c.in-Some.i c.in-Some-entry_bytes.part) c.new-view.ensures c.in-Some-entry_bytes.ensures.1) in
     entry_there c.args.disk x _ c.in-Ok.name in' lt part

@@ -16,10 +16,10 @@ returns-in-Err c =
 pub returns-in-default : goal.returns-in-default
 returns-in-default c = read_absent _ _ _ _ (admitted_ok _ _ c.in-Ok.name c.in-Ok.ensures) (λ j. (c.new-view.ensures j).now) _ c.in-default.ensures.value
 
-pub returns-in-Ok-copy-file : goal.returns-in-Ok-copy-file
-returns-in-Ok-copy-file c =
-    read_copied _ _ _ _ (admitted_ok _ _ c.in-Ok.name c.in-Ok.ensures) (λ j. (c.new-view.ensures j).now) _ c.in-Some.entry (Ok c.in-Ok-copy-file.len) _ c.in-Some.ensures.value c.in-Ok-copy-file.ensures
+pub returns-in-Ok-copy_file : goal.returns-in-Ok-copy_file
+returns-in-Ok-copy_file c =
+    read_copied _ _ _ _ (admitted_ok _ _ c.in-Ok.name c.in-Ok.ensures) (λ j. (c.new-view.ensures j).now) _ c.in-Some.entry (Ok c.in-Ok-copy_file.len) _ c.in-Some.ensures.value c.in-Ok-copy_file.ensures
 
-pub returns-in-Err-copy-file : goal.returns-in-Err-copy-file
-returns-in-Err-copy-file c =
-    read_copied _ _ _ _ (admitted_ok _ _ c.in-Ok.name c.in-Ok.ensures) (λ j. (c.new-view.ensures j).now) _ c.in-Some.entry (Err c.in-Err-copy-file.len) _ c.in-Some.ensures.value c.in-Err-copy-file.ensures
+pub returns-in-Err-copy_file : goal.returns-in-Err-copy_file
+returns-in-Err-copy_file c =
+    read_copied _ _ _ _ (admitted_ok _ _ c.in-Ok.name c.in-Ok.ensures) (λ j. (c.new-view.ensures j).now) _ c.in-Some.entry (Err c.in-Err-copy_file.len) _ c.in-Some.ensures.value c.in-Err-copy_file.ensures

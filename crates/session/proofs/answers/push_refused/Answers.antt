@@ -11,9 +11,9 @@ returns c =
     let n = shown_number (number c.args.refusal) in
     let p = shown_number c.args.place in
     let at_place = codes " at " ++ line p in
-    let numbered = c.in-ok-push-number.ensures.text ∙ ap (λ m. vec_items c.extend-from-slice.new.self ++ shown_number m) c.number.ensures in
-    made_behind c.extend-from-slice-3.result _ _ _ _ c.extend-from-slice-3.ensures.items
-    (behind _ p (10 ∷ []) c.in-ok-push-number-2.ensures.text
-    ∙ behind _ (codes " at ") (line p) c.in-ok-extend-from-slice-2.ensures.items
+    let numbered = c.in_ok-push_number.ensures.text ∙ ap (λ m. vec_items c.extend_from_slice.new.self ++ shown_number m) c.number.ensures in
+    made_behind c.extend_from_slice-3.result _ _ _ _ c.extend_from_slice-3.ensures.items
+    (behind _ p (10 ∷ []) c.in_ok-push_number-2.ensures.text
+    ∙ behind _ (codes " at ") (line p) c.in_ok-extend_from_slice-2.ensures.items
     ∙ behind _ n at_place numbered
-    ∙ behind _ (codes "refused ") (n ++ at_place) c.in-ok-extend-from-slice.ensures.items)
+    ∙ behind _ (codes "refused ") (n ++ at_place) c.in_ok-extend_from_slice.ensures.items)

@@ -25,7 +25,7 @@ returns-then-contains c =
     let i = c.loop-i.i in
     let e = c.in-Some.entry in
     let same : e ≡ entry_at d i = (entry_if_some d i e (c.in-Some.ensures ∙ ap (entry_if d) c.from-in-loop-i.ensures)).2 in
-    let owned = has_contains d i e same c.if-entry.true b c.file-blocks.result.now _ c.file-blocks.ensures c.contains.ensures.cases ∙ c.if-contains.true in
+    let owned = has_contains d i e same c.if-entry.true b c.file_blocks.result.now _ c.file_blocks.ensures c.contains.ensures.cases ∙ c.if-contains.true in
     sym (owner_here d b i c.loop-i-test.true owned) ∙ c.loop-i.invariant ∙ sym (cond-false _ _ _ (le-ltb b 8 (omega arith)))
 
 pub loop-i-preserved : goal.loop-i-preserved
@@ -36,7 +36,7 @@ loop-i-preserved c =
     let e = c.in-Some.entry in
     let same : e ≡ entry_at d i = (entry_if_some d i e (c.in-Some.ensures ∙ ap (entry_if d) c.from-in-loop-i.ensures)).2 in
     let free : has (blocks_at d i) b ≡ false = elim c.else-entry.branch [
-      | else-entry-via-then-entry+else-contains w ↦ has_contains d i e same w.if-entry.true b w.file-blocks.result.now _ w.file-blocks.ensures w.contains.ensures.cases ∙ w.if-contains.false
+      | else-entry-via-then-entry+else-contains w ↦ has_contains d i e same w.if-entry.true b w.file_blocks.result.now _ w.file_blocks.ensures w.contains.ensures.cases ∙ w.if-contains.false
       | else-entry-via-else-entry w ↦ has_unused d i e same w.if-entry.false b
     ] in
     sym (owner_behind d b i c.loop-i-test.true free) ∙ c.loop-i.invariant

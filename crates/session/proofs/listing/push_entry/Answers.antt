@@ -5,18 +5,18 @@ use Rattle.session.proofs.Named.{entry_text_none, entry_text_some}
 use Rattle.session.proofs.Texts.{made_behind}
 use Rattle.session.proofs.listing.push_entry.Goals as goal
 
-pub returns-then-is-empty : goal.returns-then-is-empty
-returns-then-is-empty c =
+pub returns-then-is_empty : goal.returns-then-is_empty
+returns-then-is_empty c =
     let x = c.args.name.now.bytes in
     let eleven : length x ≡ 11 = search rules in
-    let part = c.entry-of-entry.result in
-    let empty = eqb-true (length part.now) 0 (sym c.is-empty.ensures ∙ c.if-is-empty.true) in
-    made_behind c.extend-from-slice.result _ _ _ _ c.extend-from-slice.ensures.items (ap (λ t. vec_items c.args.out.now ++ t) (entry_text_none c.args.disk x part c.requires eleven c.entry-of-entry.ensures empty))
+    let part = c.entry_of-entry.result in
+    let empty = eqb-true (length part.now) 0 (sym c.is_empty.ensures ∙ c.if-is_empty.true) in
+    made_behind c.extend_from_slice.result _ _ _ _ c.extend_from_slice.ensures.items (ap (λ t. vec_items c.args.out.now ++ t) (entry_text_none c.args.disk x part c.requires eleven c.entry_of-entry.ensures empty))
 
 pub returns : goal.returns
 returns c =
     let x = c.args.name.now.bytes in
     let eleven : length x ≡ 11 = search rules in
-    let part = c.entry-of-entry.result in
-    let some = eqb-false (length part.now) 0 (sym c.is-empty.ensures ∙ c.if-is-empty.false) in
-    made_same c.push-bytes.result _ _ _ (ap (λ t. vec_items c.args.out.now ++ t) (entry_text_some c.args.disk x part c.requires eleven c.entry-of-entry.ensures some)) c.push-bytes.ensures.text
+    let part = c.entry_of-entry.result in
+    let some = eqb-false (length part.now) 0 (sym c.is_empty.ensures ∙ c.if-is_empty.false) in
+    made_same c.push_bytes.result _ _ _ (ap (λ t. vec_items c.args.out.now ++ t) (entry_text_some c.args.disk x part c.requires eleven c.entry_of-entry.ensures some)) c.push_bytes.ensures.text

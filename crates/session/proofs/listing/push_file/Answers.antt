@@ -7,19 +7,19 @@ use Rattle.session.proofs.Named.{read_text_some, read_text_none}
 use Rattle.session.proofs.Texts.{behind, made_behind}
 use Rattle.session.proofs.listing.push_file.Goals as goal
 
-pub returns-in-ok-push-file-line : goal.returns-in-ok-push-file-line
-returns-in-ok-push-file-line c =
+pub returns-in_ok-push_file_line : goal.returns-in_ok-push_file_line
+returns-in_ok-push_file_line c =
     let x = c.args.name.now.bytes in
     let was = vec_items c.args.out.now in
     let len = c.in-Read.len in
-    let room = c.read-file.new.room in
+    let room = c.read_file.new.room in
     let eleven : length x ≡ 11 = search rules in
     let text = read_text_some c.args.disk.now x _ room c.requires eleven refl len c.in-Read.ensures in
-    made_same c.push-bytes.result _ _ _ (behind was (file_line x len) (shown_bytes (between 0 len room)) c.in-ok-push-file-line.ensures ∙ ap (λ t. was ++ t) text) c.push-bytes.ensures.text
+    made_same c.push_bytes.result _ _ _ (behind was (file_line x len) (shown_bytes (between 0 len room)) c.in_ok-push_file_line.ensures ∙ ap (λ t. was ++ t) text) c.push_bytes.ensures.text
 
 pub returns-in-default : goal.returns-in-default
 returns-in-default c =
     let x = c.args.name.now.bytes in
     let eleven : length x ≡ 11 = search rules in
-    let text = read_text_none c.args.disk.now x _ _ c.requires eleven refl c.read-file.result c.in-default.not-Read c.read-file.ensures in
-    made_behind c.extend-from-slice.result _ _ _ _ c.extend-from-slice.ensures.items (ap (λ t. vec_items c.args.out.now ++ t) text)
+    let text = read_text_none c.args.disk.now x _ _ c.requires eleven refl c.read_file.result c.in-default.not-Read c.read_file.ensures in
+    made_behind c.extend_from_slice.result _ _ _ _ c.extend_from_slice.ensures.items (ap (λ t. vec_items c.args.out.now ++ t) text)

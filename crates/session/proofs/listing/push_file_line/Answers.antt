@@ -7,5 +7,5 @@ use Rattle.session.proofs.listing.push_file_line.Goals as goal
 pub returns : goal.returns
 unfolding file_line
 returns c =
-    made_behind c.extend-from-slice-2.result _ _ _ _ c.extend-from-slice-2.ensures.items
-    (pair_behind (vec_items c.args.out.now) (shown_name c.args.name.now.bytes) (shown_number c.args.len) c.in-ok-push-name.ensures.text c.in-ok-extend-from-slice.ensures.items c.in-ok-push-number.ensures.text)
+    made_behind c.extend_from_slice-2.result _ _ _ _ c.extend_from_slice-2.ensures.items
+    (pair_behind (vec_items c.args.out.now) (shown_name c.args.name.now.bytes) (shown_number c.args.len) c.in_ok-push_name.ensures.text c.in_ok-extend_from_slice.ensures.items c.in_ok-push_number.ensures.text)

@@ -5,7 +5,7 @@ use Rattle.session.specs.Printed.{file_line, files_from}
 use Rattle.session.proofs.Entries.{entry_not_none, files_from_used, files_from_unused}
 use Rattle.session.proofs.Texts.{put_more, put_all}
 use Rattle.session.proofs.listing.push_files.Goals as goal
-use Rattle.session.proofs.listing.push_files.Goals.{then-entry+in-ok-push-file-line, else-entry}
+use Rattle.session.proofs.listing.push_files.Goals.{then-entry+in_ok-push_file_line, else-entry}
 
 pub loop-i-preserved-in-default : goal.loop-i-preserved-in-default
 loop-i-preserved-in-default c =
@@ -21,8 +21,8 @@ loop-i-preserved c =
     let same : e ≡ entry_at d i = (entry_if_some d i e (c.in-Some.ensures ∙ (λ j. entry_if (c.new-view.ensures j).now i))).2 in
     let more = put_more (files_from d) _ out 16 i c.loop-i.invariant (vec_items c.if-entry.out) in
     elim c.if-entry.branch [
-      | then-entry+in-ok-push-file-line w ↦
-          more _ c.loop-i-test.true (files_from_used d i e same w.if-entry.true _) (ap vec_items w.out-is ∙ w.in-ok-push-file-line.ensures ∙ ap (λ n. out ++ file_line e.name.bytes n) w.from.ensures)
+      | then-entry+in_ok-push_file_line w ↦
+          more _ c.loop-i-test.true (files_from_used d i e same w.if-entry.true _) (ap vec_items w.out-is ∙ w.in_ok-push_file_line.ensures ∙ ap (λ n. out ++ file_line e.name.bytes n) w.from.ensures)
       | else-entry w ↦ more _ c.loop-i-test.true (files_from_unused d i e same w.if-entry.false _) (ap vec_items w.out-is ∙ sym (append-nil out))
     ]
 

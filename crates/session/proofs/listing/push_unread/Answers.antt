@@ -28,14 +28,14 @@ loop-run-preserved c =
     let p = unread c.args.disk.now in
     let was = vec_items c.args.out.now in
     let out = vec_items c.loop-run.out in
-    let now = vec_items c.extend-from-slice-in-loop-run.new.self in
+    let now = vec_items c.extend_from_slice-in-loop-run.new.self in
     let at = c.loop-run.run-iterator.at in
     let inv = c.loop-run.invariant in
     let r = c.in-Some.run' in
     let step = c.in-Some.ensures.steps in
     let next = subst (λ d. NextRun (unread d) at r) inv.2 step.1.0 in
-    let last = c.in-ok-push-number-2.ensures.text ∙ ap (λ n. vec_items c.extend-from-slice.new.self ++ shown_number n) c.saturating-sub.ensures in
-    let text = c.in-ok-extend-from-slice-2.ensures.items ∙ pair_behind out (shown_number r.start) (shown_number (r.end - 1)) c.in-ok-push-number.ensures.text c.in-ok-extend-from-slice.ensures.items last in
+    let last = c.in_ok-push_number-2.ensures.text ∙ ap (λ n. vec_items c.extend_from_slice.new.self ++ shown_number n) c.saturating_sub.ensures in
+    let text = c.in_ok-extend_from_slice-2.ensures.items ∙ pair_behind out (shown_number r.start) (shown_number (r.end - 1)) c.in_ok-push_number.ensures.text c.in_ok-extend_from_slice.ensures.items last in
     ((c.in-Some.ensures.goes.on tt).0, tt, (λ j. (step.0 j).now) ∙ inv.2, subst (ListedTo p was now) (sym step.1.1) (listed_more p was out at inv.3 r now next text))
 
 pub returns : goal.returns

@@ -38,7 +38,7 @@ loop-write-preserved c =
     let is = c.in-Some.ensures in (
       omega (arith, few c, nth_within ws k w is),
       omega (arith, c.if-k-lasts.false),
-      c.in-ok-push.ensures.items ∙ ap (λ l. l ++ (w ∷ [])) c.loop-write.invariant.2 ∙ append_assoc before (take k ws) (w ∷ []) ∙ ap (λ l. before ++ l) (sym (take-one_more ws k w is)),
+      c.in_ok-push.ensures.items ∙ ap (λ l. l ++ (w ∷ [])) c.loop-write.invariant.2 ∙ append_assoc before (take k ws) (w ∷ []) ∙ ap (λ l. before ++ l) (sym (take-one_more ws k w is)),
     )
 
 pub returns-in-default-write : goal.returns-in-default-write

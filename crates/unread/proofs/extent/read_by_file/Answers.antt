@@ -8,11 +8,11 @@ use Rattle.unread.proofs.extent.read_by_file.Goals.{then-x-b, else-x-b}
 pub loop-x-preserved : goal.loop-x-preserved
 loop-x-preserved c =
     let b = c.args.b in
-    let bs = c.file-blocks-blocks.result.now in
+    let bs = c.file_blocks-blocks.result.now in
     let k = c.loop-x.x-index in
     let n = c.loop-x.left in
     let read = c.loop-x.read in
-    let left : c.saturating-sub-left.result ≡ n - 64 = c.saturating-sub-left.ensures in
+    let left : c.saturating_sub-left.result ≡ n - 64 = c.saturating_sub-left.ensures in
     elim c.if-x-b.branch [
       | then-x-b w ↦
           let here : eqb b (get_or bs k 0) ≡ true = eq-eqb b (get_or bs k 0) (sym w.if-x-b.true) in
@@ -26,5 +26,5 @@ loop-x-preserved c =
 pub returns : goal.returns
 returns c =
     let b = c.args.b in
-    let bs = c.file-blocks-blocks.result.now in
-    sym (read_by_rest b bs c.loop-x.x-index c.loop-x.left c.loop-x.read c.loop-x-test.false) ∙ c.loop-x.invariant ∙ (λ j. read_by_file b (c.file-blocks-blocks.ensures j) (c.from-left.ensures j))
+    let bs = c.file_blocks-blocks.result.now in
+    sym (read_by_rest b bs c.loop-x.x-index c.loop-x.left c.loop-x.read c.loop-x-test.false) ∙ c.loop-x.invariant ∙ (λ j. read_by_file b (c.file_blocks-blocks.ensures j) (c.from-left.ensures j))

@@ -5,14 +5,14 @@ use Rattle.update.specs.declared.answer.Refusal.TheVariants.{BadName}
 use Rattle.update.proofs.Admission.{admitted_unsound, admitted-sound}
 use Rattle.update.proofs.admit.admit.Goals as goal
 
-pub returns-then-is-some : goal.returns-then-is-some
-returns-then-is-some c =
+pub returns-then-is_some : goal.returns-then-is_some
+returns-then-is_some c =
     let d = c.args.disk.now in
-    sym (admitted_unsound d _ (unsound_from_some d _ c.first_fault.ensures.value (sym c.is-some.ensures ∙ c.if-is-some.true)))
+    sym (admitted_unsound d _ (unsound_from_some d _ c.first_fault.ensures.value (sym c.is_some.ensures ∙ c.if-is_some.true)))
 
 pub returns : goal.returns
 returns c =
     let d = c.args.disk.now in
     let x = c.args.name.now in
-    let ok = sound_from_none d _ c.first_fault.ensures.judged (sym c.is-some.ensures ∙ c.if-is-some.false) in
-    c.ok-or.ensures.value ∙ ap (λ o. ok_or o BadName) c.new.ensures ∙ sym (admitted-sound d x ok)
+    let ok = sound_from_none d _ c.first_fault.ensures.judged (sym c.is_some.ensures ∙ c.if-is_some.false) in
+    c.ok_or.ensures.value ∙ ap (λ o. ok_or o BadName) c.new.ensures ∙ sym (admitted-sound d x ok)

@@ -28,8 +28,8 @@ loop-b-preserved c =
     let there : has_entries d ≡ true = le-leb 512 (length d) (omega (arith, sound_long d 16 (sound_to_rules d c.requires.0))) in
     let at : 8 + m ≡ b = omega arith in
     let next : suc m ≡ (b + 1) - 8 = omega arith in
-    let in-set : (t : Bool) → t ≡ member c.blocks-in-use-used.result b → in_use d (8 + m) ≡ t =
-    λ t is. ap (in_use d) at ∙ sym (is ∙ c.blocks-in-use-used.ensures.members b ∙ ap (λ a. a && in_use d b) there) in
+    let in-set : (t : Bool) → t ≡ member c.blocks_in_use-used.result b → in_use d (8 + m) ≡ t =
+    λ t is. ap (in_use d) at ∙ sym (is ∙ c.blocks_in_use-used.ensures.members b ∙ ap (λ a. a && in_use d b) there) in
     let inv : Chosen d k m n bs = c.loop-b.invariant in
     elim c.if-n-needed.branch [
       | then-n-needed+then-not-contains w ↦

@@ -16,5 +16,5 @@ returns c =
     let d = c.args.disk.now in
     let i = c.args.i in
     let size : (i * 32 + 32) - (i * 32 + 1) ≡ 31 = omega arith in
-    let copied = c.copy-from-slice.ensures.after ∙ ap (λ n. take n (drop (i * 32 + 1) d)) size ∙ rest_of_entry d i in
+    let copied = c.copy_from_slice.ensures.after ∙ ap (λ n. take n (drop (i * 32 + 1) d)) size ∙ rest_of_entry d i in
     c.entry_write.ensures ∙ ap (λ l. entry_write d i (0 ∷ l)) (append-nil _ ∙ copied)

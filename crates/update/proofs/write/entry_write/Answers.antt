@@ -14,6 +14,6 @@ returns c =
     let long : length e ≡ 32 = search rules in
     let half : (i % 2 * 32 + 32) - i % 2 * 32 ≡ length e = omega arith in
     let whole : (i / 2 * 64 + 64) - i / 2 * 64 ≡ 64 = omega arith in
-    let copied : c.copy-from-slice.new.self ≡ block d (i / 2) = c.copy-from-slice.ensures.after ∙ (λ j. take (whole j) (drop (mul_comm (i / 2) 64 j) d)) in
-    let written = putMid_replaced (i % 2 * 32) _ _ _ e c.copy-from-slice-2.ensures.after half ∙ (λ j. replaced (copied j) (mul_comm (i % 2) 32 j) e) in
+    let copied : c.copy_from_slice.new.self ≡ block d (i / 2) = c.copy_from_slice.ensures.after ∙ (λ j. take (whole j) (drop (mul_comm (i / 2) 64 j) d)) in
+    let written = putMid_replaced (i % 2 * 32) _ _ _ e c.copy_from_slice-2.ensures.after half ∙ (λ j. replaced (copied j) (mul_comm (i % 2) 32 j) e) in
     λ j. record { to = i / 2; bytes = written j }

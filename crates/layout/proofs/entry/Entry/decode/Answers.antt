@@ -20,14 +20,14 @@ returns c =
     let fields : ◌≡◌ {A = Entry} (record {
       used = _;
       name = record { bytes = c.array-name.result };
-      len = c.from-le-bytes.result;
+      len = c.from_le_bytes.result;
       blocks = c.array.result;
       unread = c.array-2.result;
     }) (decoded bs) =
     λ i. record {
       used = (decoded bs).used;
       name = record { bytes = c.array-name.ensures i };
-      len = two_bytes bs _ 12 _ c.array-len.ensures c.from-le-bytes.ensures i;
+      len = two_bytes bs _ 12 _ c.array-len.ensures c.from_le_bytes.ensures i;
       blocks = c.array.ensures i;
       unread = c.array-2.ensures i;
     } in

@@ -10,4 +10,4 @@ returns c =
     let blocks = c.args.self.now.blocks in
     let long : length blocks ≤ 16 = search rules in
     ap (λ k. take k blocks) (let e : c.min.result - 0 ≡ c.min.result = omega arith in e ∙ c.min.ensures)
-    ∙ take_min _ 16 blocks long ∙ ap (λ k. take k blocks) (c.blocks-needed-needed.ensures.value ∙ ap entries.needs c.from.ensures)
+    ∙ take_min _ 16 blocks long ∙ ap (λ k. take k blocks) (c.blocks_needed-needed.ensures.value ∙ ap entries.needs c.from.ensures)

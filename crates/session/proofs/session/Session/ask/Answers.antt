@@ -13,12 +13,12 @@ returns c =
     let a = asked c.args.request in
     let answer = c.perform-answer.result in
     let d₁ = c.perform-answer.new.disk in
-    let says : Says (refusal d a) d a (roomy d a) answer d₁ = subst (λ e. Says (refusal e a) e a (roomy e a) answer d₁) c.as-mut-slice.ensures.value c.perform-answer.ensures.says in
-    let r = c.push-answer.result in
+    let says : Says (refusal d a) d a (roomy d a) answer d₁ = subst (λ e. Says (refusal e a) e a (roomy e a) answer d₁) c.as_mut_slice.ensures.value c.perform-answer.ensures.says in
+    let r = c.push_answer.result in
     let left = says_asked d a answer d₁ says in
     record {
-      disk = made_anyway r (with_items_is c.args.self.now.disk d₁ (c.perform-answer.auto.disk ∙ c.as-mut-slice.ensures.len) ∙ left);
+      disk = made_anyway r (with_items_is c.args.self.now.disk d₁ (c.perform-answer.auto.disk ∙ c.as_mut_slice.ensures.len) ∙ left);
       power = refl;
-      log = made_anyway r (c.in-ok-log-writes.ensures ∙ ap (λ e. vec_items c.args.log.now ++ made_writes e a) c.as-slice.ensures.value);
-      out = made_then _ _ r (λ _ is. record { text = _; fits = record { answer = answer; says = subst (Says (refusal d a) d a (roomy d a) answer) left says; text = refl }; put_behind = is }) c.push-answer.ensures;
+      log = made_anyway r (c.in_ok-log_writes.ensures ∙ ap (λ e. vec_items c.args.log.now ++ made_writes e a) c.as_slice.ensures.value);
+      out = made_then _ _ r (λ _ is. record { text = _; fits = record { answer = answer; says = subst (Says (refusal d a) d a (roomy d a) answer) left says; text = refl }; put_behind = is }) c.push_answer.ensures;
     }

@@ -22,5 +22,5 @@ unfolding new_disk
 returns c =
     let n = c.args.blocks in
     let fit : size_fits n ≡ true = and_from _ _ (le-leb 9 n c.if-blocks.false) (le-leb n 250 c.if-blocks-2.false) in
-    let zeros : vec_items c.resize.new.self ≡ replicate (64 * n) 0 = c.in-ok-resize.ensures.items ∙ grown (vec_items c.clear.new.self) _ n c.clear.ensures.items c.clear.ensures.len in
+    let zeros : vec_items c.resize.new.self ≡ replicate (64 * n) 0 = c.in_ok-resize.ensures.items ∙ grown (vec_items c.clear.new.self) _ n c.clear.ensures.items c.clear.ensures.len in
     record { 0 = (sym fit, zeros ∙ sym (cond-true (size_fits n) _ _ fit)); power = refl }

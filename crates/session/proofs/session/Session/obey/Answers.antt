@@ -21,17 +21,17 @@ returns-in-Some c =
     let d = vec_items c.args.self.now.disk in
     let p = c.args.self.now.power in
     let s = said c.args.command.now in
-    let taken = c.take-power-lasts.ensures in
+    let taken = c.take_power-lasts.ensures in
     let found : Some c.in-Some.place ≡ fault_of d s = c.in-Some.ensures.value ∙ ap (λ v. fault_of (vec_items v) s) taken.disk in
     let faulty = fault_found d s c.in-Some.place found in
     let idle = idle_unsound d p s faulty.0 faulty.1 in
-    let o = c.push-refused.result in
+    let o = c.push_refused.result in
     let log = vec_items c.args.log.now in
     record {
       disk = made_anyway o (ap vec_items taken.disk ∙ idle.same_disk);
       power = made_anyway o (taken.left ∙ idle.same_power);
       log = made_anyway o (sym (append-nil log) ∙ ap (λ l. log ++ l) idle.no_write);
-      out = made_then _ _ o (λ _ is. record { text = refused_line Unsound c.in-Some.place; fits = subst (λ f. ShowsIf f (refused_line Unsound c.in-Some.place) (Shows d p s (refused_line Unsound c.in-Some.place))) found refl; put_behind = is }) c.push-refused.ensures;
+      out = made_then _ _ o (λ _ is. record { text = refused_line Unsound c.in-Some.place; fits = subst (λ f. ShowsIf f (refused_line Unsound c.in-Some.place) (Shows d p s (refused_line Unsound c.in-Some.place))) found refl; put_behind = is }) c.push_refused.ensures;
       promise = made_anyway o (kept d p s _ (ap vec_items taken.disk ∙ idle.same_disk));
       stopped = made_anyway o (stopped_at d p s _ (ap vec_items taken.disk ∙ idle.same_disk));
     }
@@ -44,8 +44,8 @@ returns-then-branch c =
     let p = c.args.self.now.power in
     let n = c.in-Disk.blocks in
     let is : said c.args.command.now ≡ disk n c.in-Disk.field-1 = ap said c.in-Disk.is in
-    let taken = c.take-power-lasts.ensures in
-    let made' = c.in-ok-make-disk.ensures in
+    let taken = c.take_power-lasts.ensures in
+    let made' = c.in_ok-make_disk.ensures in
     let left = made'.0.1 ∙ ap (λ v. new_disk (vec_items v) n) taken.disk ∙ sym (ap (disk_after d p) is) in
     let log = vec_items c.args.log.now in
     let fits : size_fits n ≡ true = sym made'.0.0 ∙ c.if-branch.true in
@@ -65,17 +65,17 @@ returns-else-branch c =
     let p = c.args.self.now.power in
     let n = c.in-Disk.blocks in
     let is : said c.args.command.now ≡ disk n c.in-Disk.field-1 = ap said c.in-Disk.is in
-    let taken = c.take-power-lasts.ensures in
-    let made' = c.in-ok-make-disk.ensures in
+    let taken = c.take_power-lasts.ensures in
+    let made' = c.in_ok-make_disk.ensures in
     let left = made'.0.1 ∙ ap (λ v. new_disk (vec_items v) n) taken.disk ∙ sym (ap (disk_after d p) is) in
-    let o = c.push-refused-in-Disk.result in
+    let o = c.push_refused-in-Disk.result in
     let log = vec_items c.args.log.now in
     let unfit : size_fits n ≡ false = sym made'.0.0 ∙ c.if-branch.false in
     record {
       disk = made_anyway o left;
       power = made_anyway o (made'.power ∙ taken.left ∙ ap (power_left p) is ∙ sym (ap (power_after p) is));
       log = made_anyway o (sym (append-nil log) ∙ ap (λ t. log ++ writes_of d p t) (sym is));
-      out = made_then _ _ o (λ _ behind. record { text = refused_line Unsound 16; fits = subst (λ t. Prints d p t (refused_line Unsound 16)) (sym is) (sym (cond-false (size_fits n) _ _ unfit)); put_behind = behind }) c.push-refused-in-Disk.ensures;
+      out = made_then _ _ o (λ _ behind. record { text = refused_line Unsound 16; fits = subst (λ t. Prints d p t (refused_line Unsound 16)) (sym is) (sym (cond-false (size_fits n) _ _ unfit)); put_behind = behind }) c.push_refused-in-Disk.ensures;
       promise = made_anyway o (kept d p _ _ left);
       stopped = made_anyway o (stopped_at d p _ _ left);
     }
@@ -86,7 +86,7 @@ returns-in-Power c =
     let d = vec_items c.args.self.now.disk in
     let p = c.args.self.now.power in
     let is : said c.args.command.now ≡ power c.in-Power.writes = ap said c.in-Power.is in
-    let left = ap vec_items c.take-power-lasts.ensures.disk ∙ sym (ap (disk_after d p) is) in
+    let left = ap vec_items c.take_power-lasts.ensures.disk ∙ sym (ap (disk_after d p) is) in
     let log = vec_items c.args.log.now in
     record {
       disk = left;
@@ -106,9 +106,9 @@ returns-in-Put c =
     let x = c.in-Put.name in
     let xs = vec_items c.in-Put.content in
     let is : s ≡ put x xs = ap said c.in-Put.is in
-    let taken = c.take-power-lasts.ensures in
+    let taken = c.take_power-lasts.ensures in
     let a = r.put x.bytes xs (lasting p) in
-    let request : r.put x.bytes c.as-slice-content.result.now c.take-power-lasts.result ≡ a = (λ j. r.put x.bytes (c.as-slice-content.ensures.value j) (taken.lasts j)) in
+    let request : r.put x.bytes c.as_slice-content.result.now c.take_power-lasts.result ≡ a = (λ j. r.put x.bytes (c.as_slice-content.ensures.value j) (taken.lasts j)) in
     let none : None ≡ fault_of d s = c.in-default.ensures.value ∙ ap (λ v. fault_of (vec_items v) s) taken.disk in
     let o = c.ask.result in
     let log = vec_items c.args.log.now in
@@ -120,7 +120,7 @@ returns-in-Put c =
       out = made_then _ _ o
           (λ _ behind.
           let t = behind.text in
-          let shown : RequestPrints d a (length xs) t = subst (λ (q : List ℕ × (r.Asked × ℕ)). RequestPrints q.0 q.1.0 q.1.1 t) (λ j. (vec_items (taken.disk j), (request j, ap length c.as-slice-content.ensures.value j))) behind.fits in
+          let shown : RequestPrints d a (length xs) t = subst (λ (q : List ℕ × (r.Asked × ℕ)). RequestPrints q.0 q.1.0 q.1.1 t) (λ j. (vec_items (taken.disk j), (request j, ap length c.as_slice-content.ensures.value j))) behind.fits in
           record { text = t; fits = unless_fault (fault_of d s) t (Shows d p s t) none (subst (λ u. Shows d p u t) (sym is) shown); put_behind = behind.put_behind })
           c.ask.ensures.out;
       promise = made_then _ _ o (λ _ so. kept d p s _ so) left;
@@ -135,9 +135,9 @@ returns-in-Away c =
     let s = said c.args.command.now in
     let x = c.in-Away.name in
     let is : s ≡ away x = ap said c.in-Away.is in
-    let taken = c.take-power-lasts.ensures in
+    let taken = c.take_power-lasts.ensures in
     let a = r.away x.bytes (lasting p) in
-    let request : r.away x.bytes c.take-power-lasts.result ≡ a = ap (r.away x.bytes) taken.lasts in
+    let request : r.away x.bytes c.take_power-lasts.result ≡ a = ap (r.away x.bytes) taken.lasts in
     let none : None ≡ fault_of d s = c.in-default.ensures.value ∙ ap (λ v. fault_of (vec_items v) s) taken.disk in
     let o = c.ask-in-Away.result in
     let log = vec_items c.args.log.now in
@@ -161,7 +161,7 @@ returns-in-default-command c =
     let d = vec_items c.args.self.now.disk in
     let p = c.args.self.now.power in
     let s = said c.args.command.now in
-    let taken = c.take-power-lasts.ensures in
+    let taken = c.take_power-lasts.ensures in
     let other = c.in-default-command in
     let idle = idle_shown d p c.args.command.now other.not-Disk other.not-Power other.not-Put other.not-Away in
     let none : None ≡ fault_of d s = c.in-default.ensures.value ∙ ap (λ v. fault_of (vec_items v) s) taken.disk in

@@ -17,7 +17,7 @@ record InTable (d : List ℕ) (place read : ℕ) : Type 0 where
   is : read ≡ read_of_entry (entry_at d (place / 32))
   most : read ≤ 30
 
-in_table : (c : goal.After-read-of-entry) → InTable c.args.disk.now c.args.place c.read_of_entry.result
+in_table : (c : goal.After-read_of_entry) → InTable c.args.disk.now c.args.place c.read_of_entry.result
 in_table c =
     let d = c.args.disk.now in
     let i = c.args.place / 32 in
@@ -60,11 +60,11 @@ behind-table c = in_block c.args.disk.now c.args.place c.requires.sound c.requir
 pub overflow-cast-b : goal.overflow-cast-b
 overflow-cast-b c = omega (arith, (behind-table c).few)
 
-pub read-of-block-requires : goal.read-of-block-requires
-read-of-block-requires c = (λ j. has_entries (c.new-view.ensures j).now) ∙ (behind-table c).entries
+pub read_of_block-requires : goal.read_of_block-requires
+read_of_block-requires c = (λ j. has_entries (c.new-view.ensures j).now) ∙ (behind-table c).entries
 
 -- and its block is read so far
-read : (c : goal.After-read-of-block) → (c.read_of_block.result ≡ read_of_block c.args.disk.now (c.args.place / 64) 16) × InBlock c.args.disk.now c.args.place
+read : (c : goal.After-read_of_block) → (c.read_of_block.result ≡ read_of_block c.args.disk.now (c.args.place / 64) 16) × InBlock c.args.disk.now c.args.place
 read c =
     let d = c.args.disk.now in
     (c.read_of_block.ensures ∙ (λ j. read_of_block (c.new-view.ensures j).now (c.args.place / 64) 16), in_block d c.args.place c.requires.sound c.requires.there (c.in-default.ensures ∙ (λ j. entry_if (c.new-view.ensures j).now (c.args.place / 32))))

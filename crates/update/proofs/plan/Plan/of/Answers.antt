@@ -29,11 +29,11 @@ returns-then-content-gt-LONGEST c =
     let long = put_long d x xs in'.sound_disk in'.eleven (lt-leb (length xs) 1024 c.if-content-gt-LONGEST.true) in
     subst (λ a. PlanSays d a (Err (Refused TooLong))) (sym (ap asked c.in-Put.is)) (plan_refused d (put x xs c.in-Put.lasts) TooLong long)
 
-pub of-put-requires : goal.of-put-requires
-of-put-requires c = ((admitted_ok _ _ c.in-Ok.name c.in-Ok.ensures).sound_disk, c.if-content-gt-LONGEST.false)
+pub of_put-requires : goal.of_put-requires
+of_put-requires c = ((admitted_ok _ _ c.in-Ok.name c.in-Ok.ensures).sound_disk, c.if-content-gt-LONGEST.false)
 
-pub of-away-requires : goal.of-away-requires
-of-away-requires c = (admitted_ok _ _ c.in-Ok-admit.name c.in-Ok-admit.ensures).sound_disk
+pub of_away-requires : goal.of_away-requires
+of_away-requires c = (admitted_ok _ _ c.in-Ok-admit.name c.in-Ok-admit.ensures).sound_disk
 
 pub returns-in-Some : goal.returns-in-Some
 unfolding writes
@@ -62,9 +62,9 @@ unfolding writes
 returns-in-Ok-admit c =
     let d = c.args.disk.now in
     let x = c.in-Away.bytes.now in
-    let p = c.of-away.result in
+    let p = c.of_away.result in
     let in' = admitted_ok d x c.in-Ok-admit.name c.in-Ok-admit.ensures in
-    let ws : plan_writes p ≡ take_writes d x = c.of-away.ensures ∙ ap (λ (m : Name). take_writes d m.bytes) in'.name in
+    let ws : plan_writes p ≡ take_writes d x = c.of_away.ensures ∙ ap (λ (m : Name). take_writes d m.bytes) in'.name in
     subst (λ a. PlanSays d a (Ok p)) (sym (ap asked c.in-Away.is)) (plan_made d (away x c.in-Away.lasts) p in'.unrefused refl ws)
 
 pub returns-in-Err-admit : goal.returns-in-Err-admit

@@ -13,8 +13,8 @@ use Rattle.update.proofs.TakingAway.{unused_bytes}
 use Rattle.update.proofs.plan.Plan.of_away.Goals as goal
 use Rattle.update.proofs.plan.Plan.of_away.Goals.{in-Some, in-None}
 
-pub write-without-requires : goal.write-without-requires
-write-without-requires c =
+pub write_without-requires : goal.write_without-requires
+write_without-requires c =
     let d = c.args.disk.now in
     let x = c.args.name.now.bytes in
     let place = found_place d x c.in-Some.i (c.in-Some.ensures.value ∙ (λ j. found (c.new.ensures j).now x)) in
@@ -28,7 +28,7 @@ returns c =
     elim c.match-find.branch [
       | in-Some w ↦
           let place = found_place d x w.in-Some.i (w.in-Some.ensures.value ∙ (λ j. found (c.new.ensures j).now x)) in
-          ap option_to_list w.last-is ∙ ap (λ v. option_to_list (Some v)) (w.write-without.ensures ∙ ap (λ i. entry_write d i (unused_bytes d i)) place.0) ∙ sym (cond-true _ _ _ (lt-ltb (find d x) 16 place.1))
+          ap option_to_list w.last-is ∙ ap (λ v. option_to_list (Some v)) (w.write_without.ensures ∙ ap (λ i. entry_write d i (unused_bytes d i)) place.0) ∙ sym (cond-true _ _ _ (lt-ltb (find d x) 16 place.1))
       | in-None w ↦
           let gone = found_nowhere d x c.requires (w.in-None.ensures.value ∙ (λ j. found (c.new.ensures j).now x)) in
           ap option_to_list w.last-is ∙ sym (cond-false _ _ _ (le-ltb (find d x) 16 gone))

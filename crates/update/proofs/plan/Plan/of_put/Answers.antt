@@ -12,35 +12,35 @@ use Rattle.update.specs.Plans.{plan_writes, PutPlan}
 use Rattle.update.proofs.NewFile.{take-padded}
 use Rattle.update.proofs.plan.Plan.of_put.Goals as goal
 
-pub returns-in-err-i : goal.returns-in-err-i
+pub returns-in_err-i : goal.returns-in_err-i
 unfolding room_for
-returns-in-err-i c =
+returns-in_err-i c =
     let d = c.args.disk.now in
     let x = c.args.name.bytes in
-    let full = none_from_cond (ltb (place_for d x) 16) (place_for d x) c.in-err-i.ensures in
+    let full = none_from_cond (ltb (place_for d x) 16) (place_for d x) c.in_err-i.ensures in
     subst (PutPlan d x c.args.content.now) (sym c.from-residual.ensures) (and_left _ _ full)
 
-pub choose-blocks-requires : goal.choose-blocks-requires
-choose-blocks-requires c = (c.requires.0, c.blocks-needed-needed.ensures.fewest.least 16 (omega (arith, c.requires.1)))
+pub choose_blocks-requires : goal.choose_blocks-requires
+choose_blocks-requires c = (c.requires.0, c.blocks_needed-needed.ensures.fewest.least 16 (omega (arith, c.requires.1)))
 
-pub returns-in-err-blocks : goal.returns-in-err-blocks
+pub returns-in_err-blocks : goal.returns-in_err-blocks
 unfolding room_for
-returns-in-err-blocks c =
+returns-in_err-blocks c =
     let d = c.args.disk.now in
     let x = c.args.name.bytes in
-    let full = none_from_cond (leb c.blocks-needed-needed.result (length (free d))) _ c.in-err-blocks.ensures in
-    subst (PutPlan d x c.args.content.now) (sym c.from-residual-in-err-blocks.ensures)
-    (and_right (ltb (place_for d x) 16) _ (ap (λ n. leb n (length (free d))) (sym c.blocks-needed-needed.ensures.value) ∙ full))
+    let full = none_from_cond (leb c.blocks_needed-needed.result (length (free d))) _ c.in_err-blocks.ensures in
+    subst (PutPlan d x c.args.content.now) (sym c.from-residual-in_err-blocks.ensures)
+    (and_right (ltb (place_for d x) 16) _ (ap (λ n. leb n (length (free d))) (sym c.blocks_needed-needed.ensures.value) ∙ full))
 
 -- the place that was chosen
 here : (d x : List ℕ) (i : ℕ) → Some i ≡ cond (ltb (place_for d x) 16) (Some (place_for d x)) None → (ltb (place_for d x) 16 ≡ true) × (i ≡ place_for d x)
 here d x i is = some_from_cond (ltb (place_for d x) 16) i (place_for d x) is
 
-pub entry-write-last-requires : goal.entry-write-last-requires
-entry-write-last-requires c =
+pub entry_write-last-requires : goal.entry_write-last-requires
+entry_write-last-requires c =
     let d = c.args.disk.now in
     let x = c.args.name.bytes in
-    let place = here d x c.in-ok-i.i c.in-ok-i.ensures in
+    let place = here d x c.in_ok-i.i c.in_ok-i.ensures in
     let lt = ltb-true (place_for d x) 16 place.0 in
     (omega (arith, sound_long d 16 (sound_to_rules d c.requires.0)), omega (arith, place.1))
 
@@ -57,16 +57,16 @@ returns c =
     let d = c.args.disk.now in
     let x = c.args.name.bytes in
     let xs = c.args.content.now in
-    let n = c.blocks-needed-needed.result in
-    let i = c.in-ok-i.i in
-    let count = c.blocks-needed-needed.ensures.value in
-    let place = here d x i c.in-ok-i.ensures in
-    let got = some_from_cond (leb n (length (free d))) c.in-ok-blocks.blocks (padded 16 (take n (free d))) c.in-ok-blocks.ensures in
-    let few : n ≤ 16 = c.blocks-needed-needed.ensures.fewest.least 16 (omega (arith, c.requires.1)) in
-    let blocks : c.in-ok-blocks.blocks ≡ padded 16 (chosen d xs) = got.1 ∙ ap (λ k. padded 16 (take k (free d))) count in
-    let data_first : take n c.in-ok-blocks.blocks ≡ chosen d xs = ap (take n) got.1 ∙ numbers d xs n count few (leb-true n (length (free d)) got.0) in
+    let n = c.blocks_needed-needed.result in
+    let i = c.in_ok-i.i in
+    let count = c.blocks_needed-needed.ensures.value in
+    let place = here d x i c.in_ok-i.ensures in
+    let got = some_from_cond (leb n (length (free d))) c.in_ok-blocks.blocks (padded 16 (take n (free d))) c.in_ok-blocks.ensures in
+    let few : n ≤ 16 = c.blocks_needed-needed.ensures.fewest.least 16 (omega (arith, c.requires.1)) in
+    let blocks : c.in_ok-blocks.blocks ≡ padded 16 (chosen d xs) = got.1 ∙ ap (λ k. padded 16 (take k (free d))) count in
+    let data_first : take n c.in_ok-blocks.blocks ≡ chosen d xs = ap (take n) got.1 ∙ numbers d xs n count few (leb-true n (length (free d)) got.0) in
     let entry : c.encode.result ≡ encoded (new_entry x xs (chosen d xs)) = c.encode.ensures.bytes ∙ (λ j. encoded (record { used = true; name = c.args.name; len = length xs; blocks = blocks j; unread = 0 ∷ (0 ∷ []) })) in
-    let last = c.entry-write-last.ensures ∙ (λ j. entry_write d (place.1 j) (entry j)) in (
+    let last = c.entry_write-last.ensures ∙ (λ j. entry_write d (place.1 j) (entry j)) in (
       and_from _ _ place.0 (ap (λ k. leb k (length (free d))) (sym count) ∙ got.0),
       (λ j. data_writes (data_first j) xs ++ (last j ∷ [])),
     )

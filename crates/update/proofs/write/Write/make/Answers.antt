@@ -9,4 +9,4 @@ returns-then-self-disk c = record { made = sym (le-ltb _ _ c.if-self-disk.true);
 
 pub returns : goal.returns
 unfolding size
-returns c = record { made = sym (lt-ltb _ _ c.if-self-disk.false); disk = c.write-block.ensures }
+returns c = record { made = sym (lt-ltb _ _ c.if-self-disk.false); disk = c.write_block.ensures }
