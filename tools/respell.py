@@ -621,6 +621,15 @@ written-more written_more
 zero-entry zero_entry
 zeros-empty zeros_empty
 zeros-sound zeros_sound
+after-zero after_zero
+asks-no-verb asks_no_verb
+asks-other asks_other
+asks-put asks_put
+asks-verb asks_verb
+few-needed few_needed
+listed-all listed_all
+read-line read_line
+behind-table behind_table
 """
 
 # What the toolchain's script has respelled in the code already, for the pages.

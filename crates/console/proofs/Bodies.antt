@@ -66,8 +66,8 @@ module _ (n : ℕ) (ls : List (List ℕ)) (done : List ℕ) (bad : Option ℕ) (
     on_from : {o : Option (List ℕ)} → o ≡ line_bytes l → together done bad (line_in_front m o (body (suc m) ks)) ≡ body n ls
     on_from is = ap (λ p. together done bad (line_in_front m p (body (suc m) ks))) is ∙ ap (together done bad) (sym (body_line m l ks counts none)) ∙ so_far.bytes
 
-    pub read-line : (bs : List ℕ) → Some bs ≡ line_bytes l → Read n ls (done ++ bs) bad (m + 1) ks
-    read-line bs is = one_on m (record { bytes = together_more done bad m bs (body (suc m) ks) ∙ on_from is; rest = so_far.rest ∙ commands_bytes m l ks counts none })
+    pub read_line : (bs : List ℕ) → Some bs ≡ line_bytes l → Read n ls (done ++ bs) bad (m + 1) ks
+    read_line bs is = one_on m (record { bytes = together_more done bad m bs (body (suc m) ks) ∙ on_from is; rest = so_far.rest ∙ commands_bytes m l ks counts none })
 
     pub read_bad : None ≡ line_bytes l → Read n ls done (option_or bad (Some m)) (m + 1) ks
     read_bad is = one_on m (record { bytes = together_bad done bad m (body (suc m) ks) ∙ on_from is; rest = so_far.rest ∙ commands_bytes m l ks counts none })

@@ -67,19 +67,19 @@ module _ (n : ℕ) (t l u : List ℕ) (first : clean_lines t ≡ l ∷ clean_lin
   asks_passed is = ap (commands false n) first ∙ commands_passed n l (clean_lines u) false is ∙ ap (λ k. commands false k (clean_lines u)) one
 
   module _ (counts : passed_over l ≡ false) where
-    pub asks-no-verb : verb_of l ≡ None → text_asks n t ≡ bad None Unreadable n ∷ text_asks (n + 1) u
+    pub asks_no_verb : verb_of l ≡ None → text_asks n t ≡ bad None Unreadable n ∷ text_asks (n + 1) u
     unfolding text_asks
-    asks-no-verb none = ap (commands false n) first ∙ commands_no_verb n l (clean_lines u) counts none ∙ ap (λ k. bad None Unreadable n ∷ commands false k (clean_lines u)) one
+    asks_no_verb none = ap (commands false n) first ∙ commands_no_verb n l (clean_lines u) counts none ∙ ap (λ k. bad None Unreadable n ∷ commands false k (clean_lines u)) one
 
-    asks-verb : (v : Verb) → verb_of l ≡ Some v → text_asks n t ≡ asks v n (behind l) (body (n + 1) (clean_lines u)) ∷ commands (is_put v) (n + 1) (clean_lines u)
+    asks_verb : (v : Verb) → verb_of l ≡ Some v → text_asks n t ≡ asks v n (behind l) (body (n + 1) (clean_lines u)) ∷ commands (is_put v) (n + 1) (clean_lines u)
     unfolding text_asks
-    asks-verb v is = ap (commands false n) first ∙ commands-verb n l (clean_lines u) v counts is ∙ ap (λ k. asks v n (behind l) (body k (clean_lines u)) ∷ commands (is_put v) k (clean_lines u)) one
+    asks_verb v is = ap (commands false n) first ∙ commands-verb n l (clean_lines u) v counts is ∙ ap (λ k. asks v n (behind l) (body k (clean_lines u)) ∷ commands (is_put v) k (clean_lines u)) one
 
-    pub asks-put : {b : Result (List ℕ) ℕ} {m : ℕ} {w : List ℕ} → verb_of l ≡ Some Put → BodyRead (n + 1) u b m w → text_asks n t ≡ asks Put n (behind l) b ∷ text_asks m w
-    asks-put {b = b} is read = asks-verb Put is ∙ ap (λ d. asks Put n (behind l) d ∷ commands true (n + 1) (clean_lines u)) (sym read.bytes) ∙ ap (λ ss. asks Put n (behind l) b ∷ ss) read.rest
+    pub asks_put : {b : Result (List ℕ) ℕ} {m : ℕ} {w : List ℕ} → verb_of l ≡ Some Put → BodyRead (n + 1) u b m w → text_asks n t ≡ asks Put n (behind l) b ∷ text_asks m w
+    asks_put {b = b} is read = asks_verb Put is ∙ ap (λ d. asks Put n (behind l) d ∷ commands true (n + 1) (clean_lines u)) (sym read.bytes) ∙ ap (λ ss. asks Put n (behind l) b ∷ ss) read.rest
 
-    pub asks-other : (v : Verb) (b : Result (List ℕ) ℕ) → verb_of l ≡ Some v → (v ≡ Put → ⊥) → text_asks n t ≡ asks v n (behind l) b ∷ text_asks (n + 1) u
+    pub asks_other : (v : Verb) (b : Result (List ℕ) ℕ) → verb_of l ≡ Some v → (v ≡ Put → ⊥) → text_asks n t ≡ asks v n (behind l) b ∷ text_asks (n + 1) u
     unfolding text_asks
-    asks-other v b is other =
+    asks_other v b is other =
         let so = other_than_put v other in
-        asks-verb v is ∙ ap (λ s. s ∷ commands (is_put v) (n + 1) (clean_lines u)) (so.1 n (behind l) _ b) ∙ ap (λ p. asks v n (behind l) b ∷ commands p (n + 1) (clean_lines u)) so.0
+        asks_verb v is ∙ ap (λ s. s ∷ commands (is_put v) (n + 1) (clean_lines u)) (so.1 n (behind l) _ b) ∙ ap (λ p. asks v n (behind l) b ∷ commands p (n + 1) (clean_lines u)) so.0

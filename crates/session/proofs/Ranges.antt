@@ -36,5 +36,5 @@ module _ (p : ℕ → Bool) (before : List ℕ) where
           rest = λ more listed. subst (Listed p 0) (sym (append_assoc rs (r ∷ []) more)) (so_far.rest (r ∷ more) (next, listed));
         }
 
-    pub listed-all : ((k : ℕ) → at ≤ k → p k ≡ false) → (rs : List (Range ℕ)) × Listed p 0 rs × (out ≡ before ++ shown_ranges rs)
-    listed-all none = (so_far.ranges, subst (Listed p 0) (append-nil so_far.ranges) (so_far.rest [] none), so_far.text)
+    pub listed_all : ((k : ℕ) → at ≤ k → p k ≡ false) → (rs : List (Range ℕ)) × Listed p 0 rs × (out ≡ before ++ shown_ranges rs)
+    listed_all none = (so_far.ranges, subst (Listed p 0) (append-nil so_far.ranges) (so_far.rest [] none), so_far.text)

@@ -33,9 +33,9 @@ module _ (d e : List ℕ) (ok : sound d ≡ true) (same : SameElsewhere d e) whe
       simp (get_or-take {A = ℕ} n, get_or-drop {A = ℕ} at) (same_byte i (at + j) i-in (omega arith) (omega arith)))
 
   module _ (i : ℕ) (i-in : i < 16) (used : Used d i) where
-    few-needed : needs (entry_at d i).len ≤ 16
+    few_needed : needs (entry_at d i).len ≤ 16
     unfolding needs
-    few-needed = omega (arith, rules.short i i-in used)
+    few_needed = omega (arith, rules.short i i-in used)
 
     read_here : read_of_entry (entry_at d i) ≡ 14 + needs (entry_at d i).len
     read_here = read_of_used (entry_at d i) used
@@ -49,9 +49,9 @@ module _ (d e : List ℕ) (ok : sound d ≡ true) (same : SameElsewhere d e) whe
     same_blocks =
         let n = needs (entry_at d i).len in
         (λ j. take (needs (same_len j)) (entry_at e i).blocks)
-        ∙ take-take n 16 (drop 14 (entry_bytes e i)) few-needed
-        ∙ same_part i 14 n i-in (omega (arith, few-needed)) (omega (arith, read_here))
-        ∙ sym (take-take n 16 (drop 14 (entry_bytes d i)) few-needed)
+        ∙ take-take n 16 (drop 14 (entry_bytes e i)) few_needed
+        ∙ same_part i 14 n i-in (omega (arith, few_needed)) (omega (arith, read_here))
+        ∙ sym (take-take n 16 (drop 14 (entry_bytes d i)) few_needed)
 
   pub same_read : SameRead d e
   unfolding entry_at decoded

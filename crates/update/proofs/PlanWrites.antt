@@ -52,10 +52,10 @@ nth_data (b ∷ bs) c (suc k) lt =
 pub after_more : (ws : List Write) (d : List ℕ) (k : ℕ) (w : Write) → Some w ≡ nth_write ws k → after_write (after_writes k d ws) w ≡ after_writes (suc k) d ws
 unfolding after_writes
 after_more [] d k w is = let z : ◌≡◌ {A = ℕ} 0 1 = cc in absurd (let b : ⊥ = omega arith in b)
-after_more (v ∷ ws) d zero w is = let same : w ≡ v = cc in ap (after_write d) same ∙ sym (after-zero (after_write d v) ws)
+after_more (v ∷ ws) d zero w is = let same : w ≡ v = cc in ap (after_write d) same ∙ sym (after_zero (after_write d v) ws)
   where
-    after-zero : (e : List ℕ) (us : List Write) → after_writes 0 e us ≡ e
-    after-zero e us = refl
+    after_zero : (e : List ℕ) (us : List Write) → after_writes 0 e us ≡ e
+    after_zero e us = refl
 after_more (v ∷ ws) d (suc k) w is = after_more ws (after_write d v) k w is
 
 -- more power than there are writes makes no difference

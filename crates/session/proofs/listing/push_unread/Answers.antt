@@ -5,7 +5,7 @@ use Rattle.unread.specs.declared.runs.Runs.{Runs}
 use Rattle.unread.specs.Unread.{unread}
 use Rattle.unread.specs.Runs.{Ready, NextRun}
 use Rattle.console.specs.Shown.{shown_number}
-use Rattle.session.proofs.Ranges.{ListedTo, listed_none, listed_more, listed-all}
+use Rattle.session.proofs.Ranges.{ListedTo, listed_none, listed_more, listed_all}
 use Rattle.session.proofs.Texts.{pair_behind}
 use Rattle.session.proofs.listing.push_unread.Goals as goal
 
@@ -41,4 +41,4 @@ loop-run-preserved c =
 pub returns : goal.returns
 returns c =
     let inv = c.loop-run.invariant in
-    listed-all (unread c.args.disk.now) (vec_items c.args.out.now) (vec_items c.loop-run.out) c.loop-run.run-iterator.at inv.3 (λ k from. ap (λ d. unread d k) (sym inv.2) ∙ c.in-None.ensures.steps.1 k from)
+    listed_all (unread c.args.disk.now) (vec_items c.args.out.now) (vec_items c.loop-run.out) c.loop-run.run-iterator.at inv.3 (λ k from. ap (λ d. unread d k) (sym inv.2) ∙ c.in-None.ensures.steps.1 k from)

@@ -3,7 +3,7 @@ use Rattle.std.proofs.lemmas.Bool.{eqb-true}
 use Rattle.console.specs.Words.{behind}
 use Rattle.console.specs.Verbs.{verb}
 use Rattle.console.specs.Commands.{said, items_or_line, asks, text_asks}
-use Rattle.console.proofs.Commands.{asks_nothing, asks_passed, asks-no-verb, asks-put, asks-other}
+use Rattle.console.proofs.Commands.{asks_nothing, asks_passed, asks_no_verb, asks_put, asks_other}
 use Rattle.console.proofs.script.Script.next_command.Goals as goal
 use Rattle.console.proofs.script.Script.next_command.Goals.{in-Put+in_ok-body, in-default-verb}
 
@@ -13,7 +13,7 @@ loop-heap-preserved c = c.loop-heap.invariant ∙ asks_passed _ _ _ _ c.first_li
 pub returns-in-default : goal.returns-in-default
 returns-in-default c =
     let none = ap verb (sym c.split_word.ensures.first) ∙ sym c.of.ensures ∙ c.in-default.is in
-    c.loop-heap.invariant ∙ asks-no-verb _ _ _ _ c.first_line.ensures.lines (sym c.if-is_passed_over.ensures) none
+    c.loop-heap.invariant ∙ asks_no_verb _ _ _ _ c.first_line.ensures.lines (sym c.if-is_passed_over.ensures) none
 
 pub returns-in-loop-heap : goal.returns-in-loop-heap
 returns-in-loop-heap c =
@@ -30,10 +30,10 @@ returns-in-loop-heap c =
     let command : said c.in_ok-command.command ≡ asks v n (behind l) body = c.in_ok-command.ensures ∙ ap (λ r. asks v n r body) c.split_word.ensures.rest in
     let asked : text_asks n t ≡ asks v n (behind l) body ∷ text_asks self.line self.text.now = elim c.match-verb.branch [
       | in-Put+in_ok-body w ↦
-          asks-put n t l u first counts (some ∙ ap Some w.in-Put.is) w.in_ok-body.ensures
+          asks_put n t l u first counts (some ∙ ap Some w.in-Put.is) w.in_ok-body.ensures
           ∙ (λ i. asks (sym w.in-Put.is i) n (behind l) (items_or_line vec_items (sym w.body-is i)) ∷ text_asks (sym w.self-is i).line (sym w.self-is i).text.now)
       | in-default-verb w ↦
-          asks-other n t l u first counts v body some w.in-default-verb.not-Put
+          asks_other n t l u first counts v body some w.in-default-verb.not-Put
           ∙ (λ i. asks v n (behind l) body ∷ text_asks (sym w.self-is i).line (sym w.self-is i).text.now)
     ] in
     c.loop-heap.invariant ∙ asked ∙ ap (λ s. s ∷ text_asks self.line self.text.now) (sym command)

@@ -54,14 +54,14 @@ in_block d place ok there none =
     record { entries = entries; for_files = omega (arith, behind); on_disk = omega (arith, rules.whole); few = omega (arith, rules.whole, rules.most) }
 
 -- no entry was found at the place
-behind-table : (c : goal.In-default) → InBlock c.args.disk.now c.args.place
-behind-table c = in_block c.args.disk.now c.args.place c.requires.sound c.requires.there (c.in-default.ensures ∙ (λ j. entry_if (c.new-view.ensures j).now (c.args.place / 32)))
+behind_table : (c : goal.In-default) → InBlock c.args.disk.now c.args.place
+behind_table c = in_block c.args.disk.now c.args.place c.requires.sound c.requires.there (c.in-default.ensures ∙ (λ j. entry_if (c.new-view.ensures j).now (c.args.place / 32)))
 
 pub overflow-cast-b : goal.overflow-cast-b
-overflow-cast-b c = omega (arith, (behind-table c).few)
+overflow-cast-b c = omega (arith, (behind_table c).few)
 
 pub read_of_block-requires : goal.read_of_block-requires
-read_of_block-requires c = (λ j. has_entries (c.new-view.ensures j).now) ∙ (behind-table c).entries
+read_of_block-requires c = (λ j. has_entries (c.new-view.ensures j).now) ∙ (behind_table c).entries
 
 -- and its block is read so far
 read : (c : goal.After-read_of_block) → (c.read_of_block.result ≡ read_of_block c.args.disk.now (c.args.place / 64) 16) × InBlock c.args.disk.now c.args.place
