@@ -9,8 +9,8 @@ loop-at-preserved-then-is_blank c = read_blank c.args.line.now (vec_items c.loop
 pub returns-then-at-line : goal.returns-then-at-line
 returns-then-at-line c = read_half c.args.line.now (vec_items c.loop-at.bytes) c.loop-at.at c.loop-at.invariant c.if-at-line.true (sym c.if-is_blank.ensures)
 
-pub returns-in-default : goal.returns-in-default
-returns-in-default c = read_bad c.args.line.now (vec_items c.loop-at.bytes) c.loop-at.at c.loop-at.invariant (omega arith) (sym c.if-is_blank.ensures) c.in-default.ensures
+pub returns-in_default : goal.returns-in_default
+returns-in_default c = read_bad c.args.line.now (vec_items c.loop-at.bytes) c.loop-at.at c.loop-at.invariant (omega arith) (sym c.if-is_blank.ensures) c.in_default.ensures
 
 pub loop-at-preserved : goal.loop-at-preserved
 loop-at-preserved c =

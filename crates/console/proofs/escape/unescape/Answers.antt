@@ -6,7 +6,7 @@ use Rattle.console.specs.declared.escape.Escape.TheVariants.{Plain, Slash, High,
 use Rattle.console.specs.Names.{ended}
 use Rattle.console.proofs.Spelling.{Spelt, spelt_more, spelt_bad, spelt_all}
 use Rattle.console.proofs.escape.unescape.Goals as goal
-use Rattle.console.proofs.escape.unescape.Goals.{in-Some-spelled+in_ok-push, in-default-spelled}
+use Rattle.console.proofs.escape.unescape.Goals.{in-Some-spelled+in_ok-push, in_default-spelled}
 
 not_ended : (s : Escape) → (s ≡ Plain → ⊥) → ended s ≡ None
 not_ended Plain other = absurd (other refl)
@@ -14,8 +14,8 @@ not_ended Slash other = refl
 not_ended High other = refl
 not_ended (Low h) other = refl
 
-pub returns-in-default : goal.returns-in-default
-returns-in-default c = spelt_bad c.args.text.now (vec_items c.loop-b.bytes) c.loop-b.state c.loop-b.b-index c.loop-b.invariant c.loop-b-test.true c.in-default.ensures.value
+pub returns-in_default : goal.returns-in_default
+returns-in_default c = spelt_bad c.args.text.now (vec_items c.loop-b.bytes) c.loop-b.state c.loop-b.b-index c.loop-b.invariant c.loop-b-test.true c.in_default.ensures.value
 
 pub loop-b-preserved : goal.loop-b-preserved
 loop-b-preserved c =
@@ -26,7 +26,7 @@ loop-b-preserved c =
     let bytes : done ++ option_to_list c.in-Some.spelled ≡ vec_items c.match-spelled.bytes = elim c.match-spelled.branch [
       | in-Some-spelled+in_ok-push w ↦
           ap (λ o. done ++ option_to_list o) w.in-Some-spelled.is ∙ sym (ap vec_items w.bytes-is ∙ pushed (w.in-Some-spelled.byte ∷ []) refl w.in_ok-push.was w.push.ensures.items)
-      | in-default-spelled w ↦ ap (λ o. done ++ option_to_list o) w.in-default-spelled.is ∙ append-nil done ∙ sym (ap vec_items w.bytes-is)
+      | in_default-spelled w ↦ ap (λ o. done ++ option_to_list o) w.in_default-spelled.is ∙ append-nil done ∙ sym (ap vec_items w.bytes-is)
     ] in
     subst (λ bs. Spelt text bs c.in-Some.next (drop (i + 1) text)) bytes more
 
@@ -36,8 +36,8 @@ returns-in-Plain c =
     ap Some (sym (append-nil done)) ∙ ap (λ s. option_map (λ bs. done ++ bs) (ended s)) (sym c.in-Plain.is)
     ∙ spelt_all c.args.text.now done c.loop-b.state c.loop-b.b-index c.loop-b.invariant c.loop-b-test.false
 
-pub returns-in-default-state : goal.returns-in-default-state
-returns-in-default-state c =
+pub returns-in_default-state : goal.returns-in_default-state
+returns-in_default-state c =
     let done = vec_items c.loop-b.bytes in
-    ap (option_map (λ bs. done ++ bs)) (sym (not_ended c.loop-b.state c.in-default-state.not-Plain))
+    ap (option_map (λ bs. done ++ bs)) (sym (not_ended c.loop-b.state c.in_default-state.not-Plain))
     ∙ spelt_all c.args.text.now done c.loop-b.state c.loop-b.b-index c.loop-b.invariant c.loop-b-test.false

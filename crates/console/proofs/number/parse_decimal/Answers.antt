@@ -16,7 +16,7 @@ pub returns-in_err-n : goal.returns-in_err-n
 returns-in_err-n c =
     let w = c.args.word.now in
     let i = c.loop-b.b-index in
-    c.from-residual.ensures ∙ sym (more_none (drop (i + 1) w)) ∙ ap (λ o. more_digits o (drop (i + 1) w)) c.in_err-n.ensures
+    c.from_residual.ensures ∙ sym (more_none (drop (i + 1) w)) ∙ ap (λ o. more_digits o (drop (i + 1) w)) c.in_err-n.ensures
     ∙ sym (step w c.loop-b.n i c.loop-b-test.true) ∙ c.loop-b.invariant ∙ decimal_of_some w (eqb-false (length w) 0 (sym c.is_empty.ensures ∙ c.if-is_empty.false))
 
 pub loop-b-preserved : goal.loop-b-preserved

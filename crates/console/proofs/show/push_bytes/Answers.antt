@@ -14,11 +14,11 @@ loop-i-preserved c =
     (pushed (c.gap.result ∷ []) c.in_ok-push_byte.ensures c.in_ok-push.was c.push.ensures.items)
 
 pub returns-in_err-push_byte : goal.returns-in_err-push_byte
-returns-in_err-push_byte c = record { text = search rules; back = bytes_read_back c.args.bytes.now (λ k. (c.type-inv.bytes k).fits) }
+returns-in_err-push_byte c = record { text = search rules; back = bytes_read_back c.args.bytes.now (λ k. (c.type_inv.bytes k).fits) }
 
 pub returns-in_err-push : goal.returns-in_err-push
-returns-in_err-push c = record { text = search rules; back = bytes_read_back c.args.bytes.now (λ k. (c.type-inv.bytes k).fits) }
+returns-in_err-push c = record { text = search rules; back = bytes_read_back c.args.bytes.now (λ k. (c.type_inv.bytes k).fits) }
 
 pub returns : goal.returns
 unfolding shown_bytes
-returns c = record { text = shown_all _ _ _ c.loop-i.i c.loop-i.invariant c.loop-i-test.false; back = bytes_read_back c.args.bytes.now (λ k. (c.type-inv.bytes k).fits) }
+returns c = record { text = shown_all _ _ _ c.loop-i.i c.loop-i.invariant c.loop-i-test.false; back = bytes_read_back c.args.bytes.now (λ k. (c.type_inv.bytes k).fits) }

@@ -4,9 +4,9 @@ use Rattle.fsck.specs.Sets.{member}
 use Rattle.fsck.specs.Sound.{block_ok}
 use Rattle.fsck.proofs.judge.is_fresh.Goals as goal
 
-pub returns-then-block-lt-ENTRY-BLOCKS : goal.returns-then-block-lt-ENTRY-BLOCKS
+pub returns-then-block-lt-ENTRY_BLOCKS : goal.returns-then-block-lt-ENTRY_BLOCKS
 unfolding block_ok
-returns-then-block-lt-ENTRY-BLOCKS c = sym (and_left _ _ (lt-leb 8 c.args.b (omega (arith, c.from-block.ensures))))
+returns-then-block-lt-ENTRY_BLOCKS c = sym (and_left _ _ (lt-leb 8 c.args.b (omega (arith, c.from-block.ensures))))
 
 pub returns-then-block-size : goal.returns-then-block-size
 unfolding block_ok

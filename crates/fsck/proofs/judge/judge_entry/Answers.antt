@@ -52,7 +52,7 @@ returns-then-not-is_first c =
     let used = used_is d i c.in-Some.entry true same c.if-not-entry.false in
     let lt = ltb-true i 16 (and_parts _ _ c.requires.there).1 in
     let other : eqb (find d (entry_at d i).name.bytes) i ≡ false =
-    sym (c.is_first.ensures lt ∙ (λ j. eqb (find (c.new-view.ensures j).now (same j).ghost_name.bytes) i)) ∙ c.if-not-is_first.true in
+    sym (c.is_first.ensures lt ∙ (λ j. eqb (find (c.new-view.ensures j).now (same j).name.bytes) i)) ∙ c.if-not-is_first.true in
     record {
       value = sym (entry_ok_used d i (flag_is d i c.if-disk-i-gt1.false) used ∙ and_right (leb (entry_at d i).len 1024) _ (and_left _ _ other));
       taken = λ e. absurd (false≢true e);
@@ -67,7 +67,7 @@ returns c =
     let used = used_is d i c.in-Some.entry true same c.if-not-entry.false in
     let lt = ltb-true i 16 (and_parts _ _ c.requires.there).1 in
     let first : eqb (find d (entry_at d i).name.bytes) i ≡ true =
-    sym (c.is_first.ensures lt ∙ (λ j. eqb (find (c.new-view.ensures j).now (same j).ghost_name.bytes) i)) ∙ c.if-not-is_first.false in
+    sym (c.is_first.ensures lt ∙ (λ j. eqb (find (c.new-view.ensures j).now (same j).name.bytes) i)) ∙ c.if-not-is_first.false in
     let short : leb (entry_at d i).len 1024 ≡ true = le-leb _ 1024 (subst (λ (x : Entry). x.len ≤ 1024) same (subst (λ n. n ≤ 1024) c.from.ensures c.if-from-gt-LONGEST.false)) in
     let blocks : blocks_of c.in-Some.entry ≡ blocks_of (entry_at d i) = ap blocks_of same in
     let taken : member c.args.taken.now ≡ has (blocks_to d i) = λ j k. c.requires.taken k j in

@@ -17,15 +17,15 @@ past d x n in' is =
     (λ ge. ge)
     (cases_lt (find d x) 16)
 
-pub returns-in-default : goal.returns-in-default
-returns-in-default c = entry_unfit c.args.disk c.args.name.now _ (admitted_err _ _ _ c.in-default.ensures).unfit refl
+pub returns-in_default : goal.returns-in_default
+returns-in_default c = entry_unfit c.args.disk c.args.name.now _ (admitted_err _ _ _ c.in_default.ensures).unfit refl
 
-pub returns-in-default-find : goal.returns-in-default-find
-returns-in-default-find c =
+pub returns-in_default-find : goal.returns-in_default-find
+returns-in_default-find c =
     let d = c.args.disk.now in
     let x = c.args.name.now in
     let in' = admitted_ok d x c.in-Ok.name c.in-Ok.ensures in
-    let none : None ≡ found d x = c.in-default-find.ensures.value ∙ (λ j. found (c.new-view.ensures j).now (in'.name j).bytes) in
+    let none : None ≡ found d x = c.in_default-find.ensures.value ∙ (λ j. found (c.new-view.ensures j).now (in'.name j).bytes) in
     entry_absent c.args.disk x _ (past d x _ in' none) refl
 
 pub returns : goal.returns

@@ -13,8 +13,8 @@ returns-in-Err c =
     let q = c.in-Err.refusal in
     subst (λ n. ReadSays n d x room (Refused q) room) (sym (admitted_err d x q c.in-Err.ensures).why) (refused_says q d x room)
 
-pub returns-in-default : goal.returns-in-default
-returns-in-default c = read_absent _ _ _ _ (admitted_ok _ _ c.in-Ok.name c.in-Ok.ensures) (λ j. (c.new-view.ensures j).now) _ c.in-default.ensures.value
+pub returns-in_default : goal.returns-in_default
+returns-in_default c = read_absent _ _ _ _ (admitted_ok _ _ c.in-Ok.name c.in-Ok.ensures) (λ j. (c.new-view.ensures j).now) _ c.in_default.ensures.value
 
 pub returns-in-Ok-copy_file : goal.returns-in-Ok-copy_file
 returns-in-Ok-copy_file c =

@@ -8,14 +8,14 @@ use Rattle.session.proofs.Entries.{entry_not_none, has_unused, has_contains, own
 use Rattle.session.proofs.listing.block_char.Goals as goal
 use Rattle.session.proofs.listing.block_char.Goals.{else-entry-via-then-entry+else-contains, else-entry-via-else-entry}
 
-pub returns-then-from-lt-ENTRY-BLOCKS : goal.returns-then-from-lt-ENTRY-BLOCKS
+pub returns-then-from-lt-ENTRY_BLOCKS : goal.returns-then-from-lt-ENTRY_BLOCKS
 unfolding block_char
-returns-then-from-lt-ENTRY-BLOCKS c = sym (cond-true _ _ _ (lt-ltb c.args.block 8 (omega arith)))
+returns-then-from-lt-ENTRY_BLOCKS c = sym (cond-true _ _ _ (lt-ltb c.args.block 8 (omega arith)))
 
-pub loop-i-preserved-in-default : goal.loop-i-preserved-in-default
-loop-i-preserved-in-default c =
+pub loop-i-preserved-in_default : goal.loop-i-preserved-in_default
+loop-i-preserved-in_default c =
     let i = c.loop-i.i in
-    absurd (entry_not_none (held c.args.disk) i c.requires c.loop-i-test.true (c.in-default.ensures ∙ ap (entry_if (held c.args.disk)) c.from-in-loop-i.ensures))
+    absurd (entry_not_none (held c.args.disk) i c.requires c.loop-i-test.true (c.in_default.ensures ∙ ap (entry_if (held c.args.disk)) c.from-in-loop-i.ensures))
 
 pub returns-then-contains : goal.returns-then-contains
 unfolding block_char

@@ -17,9 +17,9 @@ returns-in_ok-push_file_line c =
     let text = read_text_some c.args.disk.now x _ room c.requires eleven refl len c.in-Read.ensures in
     made_same c.push_bytes.result _ _ _ (behind was (file_line x len) (shown_bytes (between 0 len room)) c.in_ok-push_file_line.ensures ∙ ap (λ t. was ++ t) text) c.push_bytes.ensures.text
 
-pub returns-in-default : goal.returns-in-default
-returns-in-default c =
+pub returns-in_default : goal.returns-in_default
+returns-in_default c =
     let x = c.args.name.now.bytes in
     let eleven : length x ≡ 11 = search rules in
-    let text = read_text_none c.args.disk.now x _ _ c.requires eleven refl c.read_file.result c.in-default.not-Read c.read_file.ensures in
+    let text = read_text_none c.args.disk.now x _ _ c.requires eleven refl c.read_file.result c.in_default.not-Read c.read_file.ensures in
     made_behind c.extend_from_slice.result _ _ _ _ c.extend_from_slice.ensures.items (ap (λ t. vec_items c.args.out.now ++ t) text)

@@ -7,10 +7,10 @@ use Rattle.session.proofs.Texts.{put_more, put_all}
 use Rattle.session.proofs.listing.push_files.Goals as goal
 use Rattle.session.proofs.listing.push_files.Goals.{then-entry+in_ok-push_file_line, else-entry}
 
-pub loop-i-preserved-in-default : goal.loop-i-preserved-in-default
-loop-i-preserved-in-default c =
+pub loop-i-preserved-in_default : goal.loop-i-preserved-in_default
+loop-i-preserved-in_default c =
     let i = c.loop-i.i in
-    absurd (entry_not_none c.args.disk.now i c.requires c.loop-i-test.true (c.in-default.ensures ∙ (λ j. entry_if (c.new-view.ensures j).now i)))
+    absurd (entry_not_none c.args.disk.now i c.requires c.loop-i-test.true (c.in_default.ensures ∙ (λ j. entry_if (c.new-view.ensures j).now i)))
 
 pub loop-i-preserved : goal.loop-i-preserved
 loop-i-preserved c =

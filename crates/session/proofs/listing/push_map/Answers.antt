@@ -8,9 +8,9 @@ use Rattle.session.proofs.Texts.{behind, put_none, put_more, put_all}
 use Rattle.session.proofs.listing.push_map.Goals as goal
 use Rattle.session.proofs.listing.push_map.Goals.{then-block+in_ok-push-2, then-block-via-then-block, then-block-via-else-block+then-block-blocks, else-block+else-block-blocks}
 
-pub overflow-cast-block : goal.overflow-cast-block
+pub overflow_cast-block : goal.overflow_cast-block
 unfolding size
-overflow-cast-block c = omega (arith, (sound_to_rules c.args.disk.now c.requires).most)
+overflow_cast-block c = omega (arith, (sound_to_rules c.args.disk.now c.requires).most)
 
 pub block_char-requires : goal.block_char-requires
 block_char-requires c = (λ j. sound (c.new-view.ensures j).now) ∙ c.requires

@@ -9,13 +9,13 @@ use Rattle.session.proofs.Ranges.{ListedTo, listed_none, listed_more, listed_all
 use Rattle.session.proofs.Texts.{pair_behind}
 use Rattle.session.proofs.listing.push_unread.Goals as goal
 
-pub returns-in-default : goal.returns-in-default
-returns-in-default c = absurd (both_ways _ (unsound_from_some c.args.disk.now (Some c.in-default.field-0) (sym c.in-default.ensures.answer) refl) c.requires)
+pub returns-in_default : goal.returns-in_default
+returns-in_default c = absurd (both_ways _ (unsound_from_some c.args.disk.now (Some c.in_default.field-0) (sym c.in_default.ensures.answer) refl) c.requires)
 
 pub loop-run-init : goal.loop-run-init
 loop-run-init c =
     let was = vec_items c.args.out.now in
-    let begun = c.into-iter-run-iterator.ensures.into-iter-gives in
+    let begun = c.into_iter-run-iterator.ensures.into_iter-gives in
     let answer = c.in-Ok.ensures.answer in (
       subst (λ (s : Runs). Ready s.disk.now s.at) (sym begun) c.in-Ok.ensures.ready,
       tt,

@@ -9,11 +9,11 @@ use Rattle.session.proofs.Logging.{take-one_more, take_past}
 use Rattle.session.proofs.session.log_writes.Goals as goal
 
 -- a request that isn't begun makes no write
-pub returns-in-default : goal.returns-in-default
+pub returns-in_default : goal.returns-in_default
 unfolding made_writes
-returns-in-default c =
+returns-in_default c =
     let log = vec_items c.args.log.now in
-    sym (append-nil log) ∙ ap (λ ws. log ++ ws) (sym (cond-false _ _ _ c.in-default.ensures.0))
+    sym (append-nil log) ∙ ap (λ ws. log ++ ws) (sym (cond-false _ _ _ c.in_default.ensures.0))
 
 pub loop-write-init : goal.loop-write-init
 loop-write-init c = (omega arith, omega arith, sym (append-nil _))
@@ -41,13 +41,13 @@ loop-write-preserved c =
       c.in_ok-push.ensures.items ∙ ap (λ l. l ++ (w ∷ [])) c.loop-write.invariant.2 ∙ append_assoc before (take k ws) (w ∷ []) ∙ ap (λ l. before ++ l) (sym (take-one_more ws k w is)),
     )
 
-pub returns-in-default-write : goal.returns-in-default-write
+pub returns-in_default-write : goal.returns-in_default-write
 unfolding made_writes
-returns-in-default-write c =
+returns-in_default-write c =
     let ws = plan_writes c.in-Ok.plan in
     let k = c.loop-write.k in
     let told = c.in-Ok.ensures in
-    let all = take_past ws k c.lasts-lasts.result (nth_beyond ws k c.in-default-write.ensures) c.loop-write.invariant.1 in
+    let all = take_past ws k c.lasts-lasts.result (nth_beyond ws k c.in_default-write.ensures) c.loop-write.invariant.1 in
     c.loop-write.invariant.2 ∙ ap (λ l. vec_items c.args.log.now ++ l) (all ∙ (λ j. take (c.lasts-lasts.ensures j) (told.1 j)) ∙ sym (cond-true _ _ _ told.0))
 
 pub returns-then-k-lasts : goal.returns-then-k-lasts

@@ -3,9 +3,9 @@ use Rattle.layout.specs.Entries.{needs}
 use Rattle.unread.proofs.Extents.{read_of_used, read_of_unused}
 use Rattle.unread.proofs.extent.read_of_entry.Goals as goal
 
-pub overflow-add-result : goal.overflow-add-result
+pub overflow_add-result : goal.overflow_add-result
 unfolding needs
-overflow-add-result c = omega (arith, c.blocks_needed.ensures.value, c.from.ensures)
+overflow_add-result c = omega (arith, c.blocks_needed.ensures.value, c.from.ensures)
 
 pub returns-then-not-entry : goal.returns-then-not-entry
 returns-then-not-entry c = sym (read_of_unused c.args.entry.now c.if-not-entry.true)

@@ -20,10 +20,10 @@ pub returns-then-place-disk : goal.returns-then-place-disk
 returns-then-place-disk c =
     let d = c.args.disk.now in
     let k = c.args.place in
-    record { value = answer d false (unread d k) c.in-default.ensures.value (sym (unread_off_disk d k c.if-place-disk.true)); kinds = λ ok. kinds_decide d ok k; complete = complete d }
+    record { value = answer d false (unread d k) c.in_default.ensures.value (sym (unread_off_disk d k c.if-place-disk.true)); kinds = λ ok. kinds_decide d ok k; complete = complete d }
 
 pub returns : goal.returns
 returns c =
     let d = c.args.disk.now in
     let k = c.args.place in
-    record { value = answer d _ (unread d k) c.in-default.ensures.value (sym (c.at-extent.ensures.unread k (omega arith) c.at-extent.ensures.behind.0)); kinds = λ ok. kinds_decide d ok k; complete = complete d }
+    record { value = answer d _ (unread d k) c.in_default.ensures.value (sym (c.at-extent.ensures.unread k (omega arith) c.at-extent.ensures.behind.0)); kinds = λ ok. kinds_decide d ok k; complete = complete d }

@@ -13,7 +13,7 @@ returns-in-Some c =
 pub returns : goal.returns
 returns c =
     let d = c.args.disk.now in
-    let none = c.in-default.ensures in
+    let none = c.in_default.ensures in
     record {
       answer = (sym none.value, refl, refl);
       ready = record { is_sound = rules_to_sound d none.judged; within = omega arith };

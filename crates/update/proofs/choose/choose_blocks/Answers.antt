@@ -10,9 +10,9 @@ use Rattle.update.proofs.Choosing.{Chosen, chosen_as, chosen_none, chosen_used, 
 use Rattle.update.proofs.choose.choose_blocks.Goals as goal
 use Rattle.update.proofs.choose.choose_blocks.Goals.{then-n-needed+then-not-contains, else-n-needed, else-n-needed-via-then-n-needed+else-not-contains, else-n-needed-via-else-n-needed}
 
-pub overflow-cast-size : goal.overflow-cast-size
+pub overflow_cast-size : goal.overflow_cast-size
 unfolding size
-overflow-cast-size c = omega (arith, (sound_to_rules c.args.disk.now c.requires.0).most)
+overflow_cast-size c = omega (arith, (sound_to_rules c.args.disk.now c.requires.0).most)
 
 pub loop-b-init : goal.loop-b-init
 loop-b-init c = chosen_none c.args.disk.now c.args.needed

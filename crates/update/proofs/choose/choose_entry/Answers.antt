@@ -7,5 +7,5 @@ returns-in-Some c = place_named c.args.disk.now _ c.requires (λ j. (c.new.ensur
 
 pub returns : goal.returns
 returns c =
-    let place = place_unnamed c.args.disk.now _ c.requires (λ j. (c.new.ensures j).now) c.args.name.now.bytes c.in-default.ensures.value in
+    let place = place_unnamed c.args.disk.now _ c.requires (λ j. (c.new.ensures j).now) c.args.name.now.bytes c.in_default.ensures.value in
     c.first_unused.ensures ∙ ap (λ p. cond (ltb p 16) (Some p) None) (sym place)

@@ -52,7 +52,7 @@ returns c =
     let ws = plan_writes c.args.plan.now in
     let k = c.loop-write.k in
     let n = c.args.lasts in
-    let past : length ws ≤ k = nth_beyond ws k c.in-default.ensures in
+    let past : length ws ≤ k = nth_beyond ws k c.in_default.ensures in
     let within : length ws ≤ n = omega (arith, c.loop-write.invariant.1) in
     record {
       disk = c.loop-write.invariant.3 ∙ after_all ws d k n past within;

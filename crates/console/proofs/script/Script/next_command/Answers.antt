@@ -5,14 +5,14 @@ use Rattle.console.specs.Verbs.{verb}
 use Rattle.console.specs.Commands.{said, items_or_line, asks, text_asks}
 use Rattle.console.proofs.Commands.{asks_nothing, asks_passed, asks_no_verb, asks_put, asks_other}
 use Rattle.console.proofs.script.Script.next_command.Goals as goal
-use Rattle.console.proofs.script.Script.next_command.Goals.{in-Put+in_ok-body, in-default-verb}
+use Rattle.console.proofs.script.Script.next_command.Goals.{in-Put+in_ok-body, in_default-verb}
 
 pub loop-heap-preserved : goal.loop-heap-preserved
 loop-heap-preserved c = c.loop-heap.invariant ∙ asks_passed _ _ _ _ c.first_line.ensures.lines (sym c.if-is_passed_over.ensures)
 
-pub returns-in-default : goal.returns-in-default
-returns-in-default c =
-    let none = ap verb (sym c.split_word.ensures.first) ∙ sym c.of.ensures ∙ c.in-default.is in
+pub returns-in_default : goal.returns-in_default
+returns-in_default c =
+    let none = ap verb (sym c.split_word.ensures.first) ∙ sym c.of.ensures ∙ c.in_default.is in
     c.loop-heap.invariant ∙ asks_no_verb _ _ _ _ c.first_line.ensures.lines (sym c.if-is_passed_over.ensures) none
 
 pub returns-in-loop-heap : goal.returns-in-loop-heap
@@ -32,8 +32,8 @@ returns-in-loop-heap c =
       | in-Put+in_ok-body w ↦
           asks_put n t l u first counts (some ∙ ap Some w.in-Put.is) w.in_ok-body.ensures
           ∙ (λ i. asks (sym w.in-Put.is i) n (behind l) (items_or_line vec_items (sym w.body-is i)) ∷ text_asks (sym w.self-is i).line (sym w.self-is i).text.now)
-      | in-default-verb w ↦
-          asks_other n t l u first counts v body some w.in-default-verb.not-Put
+      | in_default-verb w ↦
+          asks_other n t l u first counts v body some w.in_default-verb.not-Put
           ∙ (λ i. asks v n (behind l) body ∷ text_asks (sym w.self-is i).line (sym w.self-is i).text.now)
     ] in
     c.loop-heap.invariant ∙ asked ∙ ap (λ s. s ∷ text_asks self.line self.text.now) (sym command)

@@ -8,11 +8,11 @@ pub loop-word-init : goal.loop-word-init
 unfolding counted
 loop-word-init c = (omega arith, refl)
 
-pub overflow-cast-n : goal.overflow-cast-n
-overflow-cast-n c = grind (arith, ones-le 64)
+pub overflow_cast-n : goal.overflow_cast-n
+overflow_cast-n c = grind (arith, ones-le 64)
 
-pub overflow-add-n : goal.overflow-add-n
-overflow-add-n c = grind (arith, ones-le 64)
+pub overflow_add-n : goal.overflow_add-n
+overflow_add-n c = grind (arith, ones-le 64)
 
 pub loop-word-preserved : goal.loop-word-preserved
 loop-word-preserved c = (grind (arith, ones-le 64), omega (arith, counted-word_more c.args.self.now c.loop-word.word-index (search rules)))

@@ -5,7 +5,7 @@ use Rattle.layout.proofs.disk.Disk.lookup.Goals as goal
 
 pub returns-in_err-place : goal.returns-in_err-place
 returns-in_err-place c =
-    record { value = c.from-residual.ensures ∙ lookup_none (held c.args.self.now) c.args.name.now.bytes c.in_err-place.ensures.value; none = no_file _ _ }
+    record { value = c.from_residual.ensures ∙ lookup_none (held c.args.self.now) c.args.name.now.bytes c.in_err-place.ensures.value; none = no_file _ _ }
 
 pub returns : goal.returns
 returns c =

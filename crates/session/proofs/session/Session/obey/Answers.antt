@@ -109,7 +109,7 @@ returns-in-Put c =
     let taken = c.take_power-lasts.ensures in
     let a = r.put x.bytes xs (lasting p) in
     let request : r.put x.bytes c.as_slice-content.result.now c.take_power-lasts.result ≡ a = (λ j. r.put x.bytes (c.as_slice-content.ensures.value j) (taken.lasts j)) in
-    let none : None ≡ fault_of d s = c.in-default.ensures.value ∙ ap (λ v. fault_of (vec_items v) s) taken.disk in
+    let none : None ≡ fault_of d s = c.in_default.ensures.value ∙ ap (λ v. fault_of (vec_items v) s) taken.disk in
     let o = c.ask.result in
     let log = vec_items c.args.log.now in
     let left = made_then _ (λ _. _ ≡ disk_after d p s) o (λ _ so. so ∙ (λ j. asked_of (vec_items (taken.disk j)) (request j)) ∙ sym (ap (disk_after d p) is)) c.ask.ensures.disk in
@@ -138,7 +138,7 @@ returns-in-Away c =
     let taken = c.take_power-lasts.ensures in
     let a = r.away x.bytes (lasting p) in
     let request : r.away x.bytes c.take_power-lasts.result ≡ a = ap (r.away x.bytes) taken.lasts in
-    let none : None ≡ fault_of d s = c.in-default.ensures.value ∙ ap (λ v. fault_of (vec_items v) s) taken.disk in
+    let none : None ≡ fault_of d s = c.in_default.ensures.value ∙ ap (λ v. fault_of (vec_items v) s) taken.disk in
     let o = c.ask-in-Away.result in
     let log = vec_items c.args.log.now in
     let left = made_then _ (λ _. _ ≡ disk_after d p s) o (λ _ so. so ∙ (λ j. asked_of (vec_items (taken.disk j)) (request j)) ∙ sym (ap (disk_after d p) is)) c.ask-in-Away.ensures.disk in
@@ -156,15 +156,15 @@ returns-in-Away c =
       stopped = made_then _ _ o (λ _ so. stopped_at d p s _ so) left;
     }
 
-pub returns-in-default-command : goal.returns-in-default-command
-returns-in-default-command c =
+pub returns-in_default-command : goal.returns-in_default-command
+returns-in_default-command c =
     let d = vec_items c.args.self.now.disk in
     let p = c.args.self.now.power in
     let s = said c.args.command.now in
     let taken = c.take_power-lasts.ensures in
-    let other = c.in-default-command in
+    let other = c.in_default-command in
     let idle = idle_shown d p c.args.command.now other.not-Disk other.not-Power other.not-Put other.not-Away in
-    let none : None ≡ fault_of d s = c.in-default.ensures.value ∙ ap (λ v. fault_of (vec_items v) s) taken.disk in
+    let none : None ≡ fault_of d s = c.in_default.ensures.value ∙ ap (λ v. fault_of (vec_items v) s) taken.disk in
     let o = c.show.result in
     let log = vec_items c.args.log.now in
     record {

@@ -26,8 +26,8 @@ in_table c =
     let read = c.read_of_entry.ensures ∙ ap read_of_entry known.2 in
     record { in_table = known.1; long = sound_long d 16 rules; is = read; most = subst (λ n. n ≤ 30) (sym read) (read_of_entry_most d i rules known.1) }
 
-pub overflow-add-result : goal.overflow-add-result
-overflow-add-result c = omega (arith, (in_table c).in_table, (in_table c).most)
+pub overflow_add-result : goal.overflow_add-result
+overflow_add-result c = omega (arith, (in_table c).in_table, (in_table c).most)
 
 pub returns-in-Some : goal.returns-in-Some
 returns-in-Some c =
@@ -55,10 +55,10 @@ in_block d place ok there none =
 
 -- no entry was found at the place
 behind_table : (c : goal.In-default) → InBlock c.args.disk.now c.args.place
-behind_table c = in_block c.args.disk.now c.args.place c.requires.sound c.requires.there (c.in-default.ensures ∙ (λ j. entry_if (c.new-view.ensures j).now (c.args.place / 32)))
+behind_table c = in_block c.args.disk.now c.args.place c.requires.sound c.requires.there (c.in_default.ensures ∙ (λ j. entry_if (c.new-view.ensures j).now (c.args.place / 32)))
 
-pub overflow-cast-b : goal.overflow-cast-b
-overflow-cast-b c = omega (arith, (behind_table c).few)
+pub overflow_cast-b : goal.overflow_cast-b
+overflow_cast-b c = omega (arith, (behind_table c).few)
 
 pub read_of_block-requires : goal.read_of_block-requires
 read_of_block-requires c = (λ j. has_entries (c.new-view.ensures j).now) ∙ (behind_table c).entries
@@ -67,10 +67,10 @@ read_of_block-requires c = (λ j. has_entries (c.new-view.ensures j).now) ∙ (b
 read : (c : goal.After-read_of_block) → (c.read_of_block.result ≡ read_of_block c.args.disk.now (c.args.place / 64) 16) × InBlock c.args.disk.now c.args.place
 read c =
     let d = c.args.disk.now in
-    (c.read_of_block.ensures ∙ (λ j. read_of_block (c.new-view.ensures j).now (c.args.place / 64) 16), in_block d c.args.place c.requires.sound c.requires.there (c.in-default.ensures ∙ (λ j. entry_if (c.new-view.ensures j).now (c.args.place / 32))))
+    (c.read_of_block.ensures ∙ (λ j. read_of_block (c.new-view.ensures j).now (c.args.place / 64) 16), in_block d c.args.place c.requires.sound c.requires.there (c.in_default.ensures ∙ (λ j. entry_if (c.new-view.ensures j).now (c.args.place / 32))))
 
-pub overflow-add-result-2 : goal.overflow-add-result-2
-overflow-add-result-2 c = omega (arith, (read c).0, read_of_block_most c.args.disk.now (c.args.place / 64) 16, (read c).1.few)
+pub overflow_add-result-2 : goal.overflow_add-result-2
+overflow_add-result-2 c = omega (arith, (read c).0, read_of_block_most c.args.disk.now (c.args.place / 64) 16, (read c).1.few)
 
 pub returns : goal.returns
 returns c =

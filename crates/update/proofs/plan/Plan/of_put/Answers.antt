@@ -18,7 +18,7 @@ returns-in_err-i c =
     let d = c.args.disk.now in
     let x = c.args.name.bytes in
     let full = none_from_cond (ltb (place_for d x) 16) (place_for d x) c.in_err-i.ensures in
-    subst (PutPlan d x c.args.content.now) (sym c.from-residual.ensures) (and_left _ _ full)
+    subst (PutPlan d x c.args.content.now) (sym c.from_residual.ensures) (and_left _ _ full)
 
 pub choose_blocks-requires : goal.choose_blocks-requires
 choose_blocks-requires c = (c.requires.0, c.blocks_needed-needed.ensures.fewest.least 16 (omega (arith, c.requires.1)))
@@ -29,7 +29,7 @@ returns-in_err-blocks c =
     let d = c.args.disk.now in
     let x = c.args.name.bytes in
     let full = none_from_cond (leb c.blocks_needed-needed.result (length (free d))) _ c.in_err-blocks.ensures in
-    subst (PutPlan d x c.args.content.now) (sym c.from-residual-in_err-blocks.ensures)
+    subst (PutPlan d x c.args.content.now) (sym c.from_residual-in_err-blocks.ensures)
     (and_right (ltb (place_for d x) 16) _ (ap (λ n. leb n (length (free d))) (sym c.blocks_needed-needed.ensures.value) ∙ full))
 
 -- the place that was chosen
