@@ -1,5 +1,6 @@
-use Rattle.std.proofs.Common.{◌≡◌, ℕ, ◌≤◌, ltb, List, Some, None, refl, ◌∙◌, subst, ⊎_elim, MutBor}
+use Rattle.std.proofs.Common.{◌≡◌, ℕ, ◌≤◌, ltb, List, Some, None, refl, ◌∙◌, subst, ⊎_elim}
 use Rattle.std.proofs.lemmas.Bool.{cases_lt, and_parts, ltb-true, both_ways}
+use Rattle.std.specs.Borrow.{Bor}
 use Rattle.layout.specs.declared.name.Name.{Name}
 use Rattle.layout.specs.Files.{has_entry, has_entries, find, found, EntryPart}
 use Rattle.layout.proofs.Finding.{some_from_cond, none_from_cond}
@@ -36,5 +37,5 @@ returns c =
     let some : Some c.in-Some.i ≡ found d x = c.in-Some.ensures.value ∙ (λ j. found (c.new-view.ensures j).now (in'.name j).bytes) in
     let known = some_from_cond (has_entry d (find d x)) c.in-Some.i (find d x) some in
     let lt = ltb-true (find d x) 16 (and_parts (has_entries d) (ltb (find d x) 16) known.0).1 in
-    let part : EntryPart c.args.disk (find d x) c.in-Some-entry_bytes.part = subst (λ i. EntryPart c.args.disk i c.in-Some-entry_bytes.part) known.1 (subst (λ (v : MutBor (List ℕ)). EntryPart v c.in-Some.i c.in-Some-entry_bytes.part) c.new-view.ensures c.in-Some-entry_bytes.ensures.1) in
+    let part : EntryPart c.args.disk (find d x) c.in-Some-entry_bytes.part = subst (λ i. EntryPart c.args.disk i c.in-Some-entry_bytes.part) known.1 (subst (λ (v : Bor (List ℕ)). EntryPart v c.in-Some.i c.in-Some-entry_bytes.part) c.new-view.ensures c.in-Some-entry_bytes.ensures.1) in
     entry_there c.args.disk x _ c.in-Ok.name in' lt part

@@ -19,7 +19,7 @@ pub loop-write-init : goal.loop-write-init
 loop-write-init c = (omega arith, omega arith, sym (append-nil _))
 
 -- it has at most seventeen
-few : (c : goal.In-ok-push) → length (plan_writes c.in-Ok.plan) ≤ 17
+few : (c : goal.In_ok-push) → length (plan_writes c.in-Ok.plan) ≤ 17
 few c =
     let d = c.args.disk.now in
     let a = asked c.args.request in

@@ -5,7 +5,7 @@ use Rattle.console.specs.Verbs.{verb}
 use Rattle.console.specs.Commands.{said, items_or_line, asks, text_asks}
 use Rattle.console.proofs.Commands.{asks_nothing, asks_passed, asks_no_verb, asks_put, asks_other}
 use Rattle.console.proofs.script.Script.next_command.Goals as goal
-use Rattle.console.proofs.script.Script.next_command.Goals.{in-Put+in_ok-body, in_default-verb}
+use Rattle.console.proofs.script.Script.next_command.Goals.{in-Put+in_ok-body-in-Put, in_default-verb}
 
 pub loop-heap-preserved : goal.loop-heap-preserved
 loop-heap-preserved c = c.loop-heap.invariant ∙ asks_passed _ _ _ _ c.first_line.ensures.lines (sym c.if-is_passed_over.ensures)
@@ -29,8 +29,8 @@ returns-in-loop-heap c =
     let some = ap verb (sym c.split_word.ensures.first) ∙ sym c.of.ensures ∙ c.in-Some.is in
     let command : said c.in_ok-command.command ≡ asks v n (behind l) body = c.in_ok-command.ensures ∙ ap (λ r. asks v n r body) c.split_word.ensures.rest in
     let asked : text_asks n t ≡ asks v n (behind l) body ∷ text_asks self.line self.text.now = elim c.match-verb.branch [
-      | in-Put+in_ok-body w ↦
-          asks_put n t l u first counts (some ∙ ap Some w.in-Put.is) w.in_ok-body.ensures
+      | in-Put+in_ok-body-in-Put w ↦
+          asks_put n t l u first counts (some ∙ ap Some w.in-Put.is) w.in_ok-body-in-Put.ensures
           ∙ (λ i. asks (sym w.in-Put.is i) n (behind l) (items_or_line vec_items (sym w.body-is i)) ∷ text_asks (sym w.self-is i).line (sym w.self-is i).text.now)
       | in_default-verb w ↦
           asks_other n t l u first counts v body some w.in_default-verb.not-Put

@@ -6,7 +6,7 @@ use Rattle.console.specs.Commands.{items_or_line, clean_lines, BodyRead}
 use Rattle.console.proofs.Bodies.{Read, Ended, read_as, read_passed, read_line, read_bad, ended_empty, ended-verb, all_read, bad_read}
 use Rattle.console.proofs.script.Script.parse_body.Goals as goal
 use Rattle.console.proofs.script.Script.parse_body.Goals.{else-loop-heap-test, then-loop-heap-test+then-not-is_passed_over+then-is_some, in-Some-bad, in-None-bad}
-use Rattle.console.proofs.script.Script.parse_body.Goals.{then-not-is_passed_over+else-is_some+in_ok-more+in-Some+in_ok-extend_from_slice, then-not-is_passed_over+else-is_some+in_ok-more+in-None, else-not-is_passed_over}
+use Rattle.console.proofs.script.Script.parse_body.Goals.{then-not-is_passed_over+else-is_some+in_ok-more+in-Some+in_ok-extend_from_slice-in-Some, then-not-is_passed_over+else-is_some+in_ok-more+in-None, else-not-is_passed_over}
 
 pub loop-heap-preserved : goal.loop-heap-preserved
 loop-heap-preserved c =
@@ -19,12 +19,12 @@ loop-heap-preserved c =
     let ks = clean_lines c.first_line.result.1.now in
     let so_far = subst (Read n ls done bad m) c.first_line.ensures.lines c.loop-heap.invariant in
     elim c.if-not-is_passed_over.branch [
-      | then-not-is_passed_over+else-is_some+in_ok-more+in-Some+in_ok-extend_from_slice w ↦
+      | then-not-is_passed_over+else-is_some+in_ok-more+in-Some+in_ok-extend_from_slice-in-Some w ↦
           let counts = sym w.if-not-is_passed_over.ensures in
           let none = ap is_some (sym w.verb_of.ensures) ∙ sym w.if-is_some.ensures in
           let more = w.as_slice.result.now in
           let is = ap Some w.as_slice.ensures.value ∙ ap (option_map vec_items) (sym w.in-Some.is) ∙ w.in_ok-more.ensures in
-          read_as (ap vec_items w.bytes-is ∙ pushed more refl w.in_ok-extend_from_slice.was w.extend_from_slice.ensures.items) w.bad-is (read_line n ls done bad m l ks so_far counts none more is)
+          read_as (ap vec_items w.bytes-is ∙ pushed more refl w.in_ok-extend_from_slice-in-Some.was w.extend_from_slice.ensures.items) w.bad-is (read_line n ls done bad m l ks so_far counts none more is)
       | then-not-is_passed_over+else-is_some+in_ok-more+in-None w ↦
           let counts = sym w.if-not-is_passed_over.ensures in
           let none = ap is_some (sym w.verb_of.ensures) ∙ sym w.if-is_some.ensures in

@@ -54,7 +54,7 @@ in_block d place ok there none =
     record { entries = entries; for_files = omega (arith, behind); on_disk = omega (arith, rules.whole); few = omega (arith, rules.whole, rules.most) }
 
 -- no entry was found at the place
-behind_table : (c : goal.In-default) → InBlock c.args.disk.now c.args.place
+behind_table : (c : goal.In_default) → InBlock c.args.disk.now c.args.place
 behind_table c = in_block c.args.disk.now c.args.place c.requires.sound c.requires.there (c.in_default.ensures ∙ (λ j. entry_if (c.new-view.ensures j).now (c.args.place / 32)))
 
 pub overflow_cast-b : goal.overflow_cast-b
