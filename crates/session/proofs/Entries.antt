@@ -37,7 +37,7 @@ module _ (d : List ℕ) (i : ℕ) (e : Entry) (is : e ≡ entry_at d i) where
   has_unused unused b = ap (λ l. has l b) (blocks_at_unused d i (ap (λ (x : Entry). x.used) (sym is) ∙ unused))
 
   -- what `contains` answers of the blocks of an entry in use
-  pub has_contains : e.used ≡ true → (b : ℕ) (bs : List ℕ) (r : Bool) → bs ≡ blocks_of e → IsAnyAnswer (λ x t. Decides t (x ≡ b)) bs r → has (blocks_at d i) b ≡ r
+  pub has_contains : e.used ≡ true → (b : ℕ) (bs : List ℕ) (r : Bool) → bs ≡ blocks_of e → IsAnyAnswer (λ x t. eqb x b ≡ t) bs r → has (blocks_at d i) b ≡ r
   has_contains used b bs r blocks answer =
       let decides = contains_decides eqb Decides-eqb bs b r answer in
       let same : blocks_at d i ≡ bs = blocks_at_used d i (ap (λ (x : Entry). x.used) (sym is) ∙ used) ∙ ap blocks_of (sym is) ∙ sym blocks in

@@ -7,15 +7,15 @@ use Rattle.session.proofs.Named.{read_text_some, read_text_none}
 use Rattle.session.proofs.Texts.{behind, made_behind}
 use Rattle.session.proofs.listing.push_file.Goals as goal
 
-pub returns-in_ok-push_file_line : goal.returns-in_ok-push_file_line
-returns-in_ok-push_file_line c =
+pub returns-in_ok-push_file_line-in-Read : goal.returns-in_ok-push_file_line-in-Read
+returns-in_ok-push_file_line-in-Read c =
     let x = c.args.name.now.bytes in
     let was = vec_items c.args.out.now in
     let len = c.in-Read.len in
     let room = c.read_file.new.room in
     let eleven : length x ≡ 11 = search rules in
     let text = read_text_some c.args.disk.now x _ room c.requires eleven refl len c.in-Read.ensures in
-    made_same c.push_bytes.result _ _ _ (behind was (file_line x len) (shown_bytes (between 0 len room)) c.in_ok-push_file_line.ensures ∙ ap (λ t. was ++ t) text) c.push_bytes.ensures.text
+    made_same c.push_bytes.result _ _ _ (behind was (file_line x len) (shown_bytes (between 0 len room)) c.in_ok-push_file_line-in-Read.ensures ∙ ap (λ t. was ++ t) text) c.push_bytes.ensures.text
 
 pub returns-in_default : goal.returns-in_default
 returns-in_default c =

@@ -15,7 +15,7 @@ returns-in_default c = absurd (both_ways _ (unsound_from_some c.args.disk.now (S
 pub loop-run-init : goal.loop-run-init
 loop-run-init c =
     let was = vec_items c.args.out.now in
-    let begun = c.into_iter-run-iterator.ensures.into_iter-gives in
+    let begun = c.into_iter-run-iterator.ensures.into_iter_gives in
     let answer = c.in-Ok.ensures.answer in (
       subst (λ (s : Runs). Ready s.disk.now s.at) (sym begun) c.in-Ok.ensures.ready,
       tt,

@@ -9,7 +9,7 @@ unfolding new_disk
 returns-then-blocks c =
     let n = c.args.blocks in
     let unfit : size_fits n ≡ false = ⊎_elim (λ few. and_left _ _ (lt-leb 9 n few)) (λ many. and_right (leb 9 n) _ (lt-leb n 250 many.1)) c.then-blocks.either in
-    record { 0 = (sym unfit, sym (cond-false (size_fits n) _ _ unfit)); power = refl }
+    record { ok = (sym unfit, sym (cond-false (size_fits n) _ _ unfit)); power = refl }
 
 -- nothing, grown to n blocks of zeros
 grown : (xs : List ℕ) (len n : ℕ) → xs ≡ [] → len ≡ 0 → take (n * 64) xs ++ replicate (n * 64 - len) 0 ≡ replicate (64 * n) 0
@@ -23,4 +23,4 @@ returns c =
     let n = c.args.blocks in
     let fit : size_fits n ≡ true = and_from _ _ (le-leb 9 n c.if-blocks.false) (le-leb n 250 c.if-blocks-2.false) in
     let zeros : vec_items c.resize.new.self ≡ replicate (64 * n) 0 = c.in_ok-resize.ensures.items ∙ grown (vec_items c.clear.new.self) _ n c.clear.ensures.items c.clear.ensures.len in
-    record { 0 = (sym fit, zeros ∙ sym (cond-true (size_fits n) _ _ fit)); power = refl }
+    record { ok = (sym fit, zeros ∙ sym (cond-true (size_fits n) _ _ fit)); power = refl }
