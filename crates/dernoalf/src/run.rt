@@ -124,8 +124,8 @@ impl Run {
         match command {
             Command::Bad(..) => false,
             Command::Disk(..) | Command::Power(_) => out.is_empty(),
-            Command::Put(..) | Command::Away(_) => out == b"done\n",
-            Command::Read(_) | Command::Entry(_) => out != b"none\n"
+            Command::Put(..) | Command::Away(_) => out == b"done\n".as_slice(),
+            Command::Read(_) | Command::Entry(_) => out != b"none\n".as_slice()
                 && first_fault(self.session.disk()).is_none(),
             _ => first_fault(self.session.disk()).is_none(),
         }
