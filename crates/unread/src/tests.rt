@@ -82,7 +82,7 @@ fn ranges_of_files_of_all_lengths(rt: HostRuntime) -> Result<(), Fail> {
             ranges.push((run.start, run.end))?;
         }
     }
-    assert_eq!(rt; ranges.as_slice(), &RANGES);
+    assert_eq!(rt; ranges.as_slice(), RANGES.as_slice());
     Ok(())
 }
 

@@ -3,7 +3,6 @@ use Rattle.update.specs.declared.answer.Done.TheVariants.{Finished, Cut}
 use Rattle.update.specs.Writes.{after_writes}
 use Rattle.update.specs.Asking.{asked, refusal, roomy}
 use Rattle.update.specs.Plans.{OnDisk}
-use Rattle.update.specs.Requests.{lasts}
 use Rattle.update.specs.Said.{Says}
 use Rattle.update.proofs.Sequences.{as_done_next}
 use Rattle.update.proofs.Performing.{lawful, says_step}
