@@ -9,6 +9,7 @@ use failure::{Failure, USAGE};
 use run::Run;
 use std::env;
 use std::io::{Print, Read};
+use std::process::ExitCode;
 
 // The command text on standard input.
 fn input(rt: &HostRuntime) -> Result<Vec<u8>, Failure> {
@@ -84,12 +85,12 @@ fn start(rt: &HostRuntime) -> Result<(), Failure> {
     single(rt, &mut run, words.as_slice())
 }
 
-fn main(rt: HostRuntime) -> Result<(), ()> {
+fn main(rt: HostRuntime) -> ExitCode {
     match start(&rt) {
-        Ok(()) => Ok(()),
+        Ok(()) => ExitCode::SUCCESS,
         Err(failure) => {
             failure.report(&rt);
-            Err(())
+            ExitCode::FAILURE
         }
     }
 }
