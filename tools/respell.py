@@ -1,8 +1,8 @@
 #!/usr/bin/env python3
-"""Brings the names of this repository's own definitions, lemmas and record fields to today's spelling.
+"""Brings the names of this repository's own definitions, lemmas, record fields and variables to today's spelling.
 
 Run once at the top of the repository, on what the toolchain's own script for older repositories has left.
-Definitions and fields are in snake case; in the name of a lemma a dash joins the names of two definitions, and plain words are joined by underscores.
+Definitions, fields and variables are in snake case; in the name of a lemma a dash joins the names of two definitions, and plain words are joined by underscores.
 It reads specs/, proofs/ and src/ of every crate, and what stands between backticks in comments and pages.
 Functions of src/, strings, inputs and outputs keep their names: no name of the table is one of these.
 """
@@ -459,7 +459,7 @@ put-sound put_sound
 put-unseen put_unseen
 put-unsound put_unsound
 put-writes put_writes
-putMid-replaced putMid_replaced
+putMid-replaced put_mid-replaced
 range-line range_line
 reached-decides reached_decides
 read-absent read_absent
@@ -630,6 +630,49 @@ few-needed few_needed
 listed-all listed_all
 read-line read_line
 behind-table behind_table
+a-new a_new
+a-old a_old
+a-used a_used
+at-12 at_12
+at-14 at_14
+at-30 at_30
+b-in b_in
+b-new b_new
+b-old b_old
+b-used b_used
+behind-put behind_put
+from-1 from_1
+from-12 from_12
+ge-1 ge_1
+ge-12 ge_12
+ge-13 ge_13
+ge-14 ge_14
+i-in i_in
+in-entries in_entries
+in-set in_set
+j-in j_in
+k-in k_in
+l-in l_in
+len-too len_too
+less-1 less_1
+less-12 less_12
+less-13 less_13
+less-14 less_14
+long-12 long_12
+long-14 long_14
+long-30 long_30
+not-i not_i
+on-disk₁ on_disk₁
+past-block past_block
+rules-too rules_too
+sound-here sound_here
+to-12 to_12
+to-14 to_14
+to-30 to_30
+to-32 to_32
+used-i used_i
+within-here within_here
+x-is-y x_is_y
 """
 
 # What the toolchain's script has respelled in the code already, for the pages.
@@ -744,7 +787,7 @@ def main():
         turned += turn(path, lambda t: respell_code(t, "--"))
     for path in sorted(glob.glob("crates/*/src/**/*.rt", recursive=True)):
         turned += turn(path, lambda t: respell_code(t, "//"))
-    for path in ["README.md"] + sorted(glob.glob("docs/*.md")):
+    for path in ["README.md"] + sorted(set(glob.glob("docs/*.md")) - {"docs/PORT.md"}):
         turned += turn(path, respell_quoted)
     print(f"{turned} files, {len(NAMES)} names")
 

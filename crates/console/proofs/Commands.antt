@@ -19,11 +19,11 @@ none_from_is_some None none = refl
 none_from_is_some (Some x) none = absurd (true≢false none)
 
 module _ (n : ℕ) (l : List ℕ) (ls : List (List ℕ)) where
-  pub commands_passed : (behind-put : Bool) → passed_over l ≡ true → commands behind-put n (l ∷ ls) ≡ commands behind-put (suc n) ls
+  pub commands_passed : (behind_put : Bool) → passed_over l ≡ true → commands behind_put n (l ∷ ls) ≡ commands behind_put (suc n) ls
   unfolding commands
   commands_passed p is = cond-true (passed_over l) _ _ is
 
-  commands-onward : (behind-put : Bool) → passed_over l ≡ false → commands behind-put n (l ∷ ls) ≡ onward (λ q. commands q (suc n) ls) behind-put n l ls (verb_of l)
+  commands-onward : (behind_put : Bool) → passed_over l ≡ false → commands behind_put n (l ∷ ls) ≡ onward (λ q. commands q (suc n) ls) behind_put n l ls (verb_of l)
   unfolding commands
   commands-onward p counts = cond-false (passed_over l) _ _ counts
 

@@ -134,13 +134,13 @@ is_put Read = false
 is_put Unread = false
 
 -- what line n asks, and then what the lines behind it do, which depends on whether it begins a put; behind a put, lines that begin with no command's word are its bytes
-abbrev pub onward : (Bool → List Said) → (behind-put : Bool) → ℕ → List ℕ → List (List ℕ) → Option Verb → List Said
+abbrev pub onward : (Bool → List Said) → (behind_put : Bool) → ℕ → List ℕ → List (List ℕ) → Option Verb → List Said
 onward rest true n l ls None = rest true
 onward rest false n l ls None = bad None Unreadable n ∷ rest false
 onward rest p n l ls (Some v) = asks v n (behind l) (body (suc n) ls) ∷ rest (is_put v)
 
 -- what the lines from n on ask
-unfoldable pub commands : (behind-put : Bool) → ℕ → List (List ℕ) → List Said
+unfoldable pub commands : (behind_put : Bool) → ℕ → List (List ℕ) → List Said
 commands p n [] = []
 commands p n (l ∷ ls) = cond (passed_over l) (commands p (suc n) ls) (onward (λ q. commands q (suc n) ls) p n l ls (verb_of l))
 

@@ -41,6 +41,6 @@ module _ (d : List ℕ) (n i : ℕ) (s : SoundTo d n) (in_table : i < 16) (lt : 
   length-content =
       let e = entry_at d i in
       let all : length (flat_map (block d) (blocks_of e)) ≡ 64 * length (blocks_of e) =
-      length_joined (block d) (blocks_of e) (λ k k-in. length-block d _ (omega (arith, s.whole, s.on_disk i k (record { entry = lt; used = used; within = k-in })))) in
+      length_joined (block d) (blocks_of e) (λ k k_in. length-block d _ (omega (arith, s.whole, s.on_disk i k (record { entry = lt; used = used; within = k_in })))) in
       let many = length-blocks_at in
       simp length-take (omega arith)

@@ -100,47 +100,47 @@ module _ (d : List ℕ) (i : ℕ) (in_table : i < 16) where
   pub sound_more : SoundTo d i → EntryRight d i → SoundTo d (suc i)
   sound_more s r =
       let here : (j : ℕ) → j ≡ i → Used d j → Used d i = λ j same used. subst (Used d) same used in
-      let within-here : (j k : ℕ) → j ≡ i → k < length (blocks_of (entry_at d j)) → k < length (blocks_of (entry_at d i)) = λ j k same. subst (λ m. k < length (blocks_of (entry_at d m))) same in
+      let within_here : (j k : ℕ) → j ≡ i → k < length (blocks_of (entry_at d j)) → k < length (blocks_of (entry_at d i)) = λ j k same. subst (λ m. k < length (blocks_of (entry_at d m))) same in
       let at_here : (j k : ℕ) → j ≡ i → block_of d j k ≡ block_of d i k = λ j k. ap (λ m. block_of d m k) in
       let bs = blocks_of (entry_at d i) in
       let new : (j k l : ℕ) → Place d i j k → Used d i → l < length bs → block_of d j k ≡ block_of d i l → ⊥ =
       λ j k l p used lt same. both_ways _ ((r.fresh used).unseen l lt) (ap (has (blocks_to d i)) (sym same) ∙ place_has d i j k p) in
       let first : (j : ℕ) → j < i → Used d j → Used d i → (entry_at d j).name ≡ (entry_at d i).name → ⊥ =
-      λ j lt used used-i same. (find_first d (entry_at d i).name.bytes).before j (subst (λ m. j < m) (sym (r.first used-i)) lt) (used, ap (λ (x : Name). x.bytes) same) in
+      λ j lt used used_i same. (find_first d (entry_at d i).name.bytes).before j (subst (λ m. j < m) (sym (r.first used_i)) lt) (used, ap (λ (x : Name). x.bytes) same) in
       record {
         whole = s.whole;
         least = s.least;
         most = s.most;
         flag = λ j lt. ⊎_elim (λ same. subst (λ m. get_or (entry_bytes d m) 0 0 ≤ 1) (sym same) r.flag) (λ other. s.flag j (omega arith)) (cases_eq j i);
         short = λ j lt used. ⊎_elim (λ same. subst (λ m. (entry_at d m).len ≤ 1024) (sym same) (r.short (here j same used))) (λ other. s.short j (omega arith) used) (cases_eq j i);
-        from_8 = λ j k p. ⊎_elim (λ same. subst (λ m. 8 ≤ block_of d m k) (sym same) ((r.fresh (here j same p.used)).low k (within-here j k same p.within))) (λ other. s.from_8 j k (place_before d i j k p other)) (cases_eq j i);
-        on_disk = λ j k p. ⊎_elim (λ same. subst (λ m. block_of d m k < size d) (sym same) ((r.fresh (here j same p.used)).high k (within-here j k same p.within))) (λ other. s.on_disk j k (place_before d i j k p other)) (cases_eq j i);
+        from_8 = λ j k p. ⊎_elim (λ same. subst (λ m. 8 ≤ block_of d m k) (sym same) ((r.fresh (here j same p.used)).low k (within_here j k same p.within))) (λ other. s.from_8 j k (place_before d i j k p other)) (cases_eq j i);
+        on_disk = λ j k p. ⊎_elim (λ same. subst (λ m. block_of d m k < size d) (sym same) ((r.fresh (here j same p.used)).high k (within_here j k same p.within))) (λ other. s.on_disk j k (place_before d i j k p other)) (cases_eq j i);
         one_block = λ a k b l p q same.
             ⊎_elim
-            (λ a-new.
-            let used = here a a-new p.used in
-            let k-in = within-here a k a-new p.within in
+            (λ a_new.
+            let used = here a a_new p.used in
+            let k_in = within_here a k a_new p.within in
             ⊎_elim
-            (λ b-new. (a-new ∙ sym b-new, (r.fresh used).once k l k-in (within-here b l b-new q.within) (sym (at_here a k a-new) ∙ same ∙ at_here b l b-new)))
-            (λ b-old. absurd (new b l k (place_before d i b l q b-old) used k-in (sym same ∙ at_here a k a-new)))
+            (λ b_new. (a_new ∙ sym b_new, (r.fresh used).once k l k_in (within_here b l b_new q.within) (sym (at_here a k a_new) ∙ same ∙ at_here b l b_new)))
+            (λ b_old. absurd (new b l k (place_before d i b l q b_old) used k_in (sym same ∙ at_here a k a_new)))
             (cases_eq b i))
-            (λ a-old.
+            (λ a_old.
             ⊎_elim
-            (λ b-new. absurd (new a k l (place_before d i a k p a-old) (here b b-new q.used) (within-here b l b-new q.within) (same ∙ at_here b l b-new)))
-            (λ b-old. s.one_block a k b l (place_before d i a k p a-old) (place_before d i b l q b-old) same)
+            (λ b_new. absurd (new a k l (place_before d i a k p a_old) (here b b_new q.used) (within_here b l b_new q.within) (same ∙ at_here b l b_new)))
+            (λ b_old. s.one_block a k b l (place_before d i a k p a_old) (place_before d i b l q b_old) same)
             (cases_eq b i))
             (cases_eq a i);
-        one_name = λ a b a_in b-in a-used b-used same.
+        one_name = λ a b a_in b_in a_used b_used same.
             ⊎_elim
-            (λ a-new.
+            (λ a_new.
             ⊎_elim
-            (λ b-new. a-new ∙ sym b-new)
-            (λ b-old. absurd (first b (omega arith) b-used (here a a-new a-used) (sym same ∙ ap (λ m. (entry_at d m).name) a-new)))
+            (λ b_new. a_new ∙ sym b_new)
+            (λ b_old. absurd (first b (omega arith) b_used (here a a_new a_used) (sym same ∙ ap (λ m. (entry_at d m).name) a_new)))
             (cases_eq b i))
-            (λ a-old.
+            (λ a_old.
             ⊎_elim
-            (λ b-new. absurd (first a (omega arith) a-used (here b b-new b-used) (same ∙ ap (λ m. (entry_at d m).name) b-new)))
-            (λ b-old. s.one_name a b (omega arith) (omega arith) a-used b-used same)
+            (λ b_new. absurd (first a (omega arith) a_used (here b b_new b_used) (same ∙ ap (λ m. (entry_at d m).name) b_new)))
+            (λ b_old. s.one_name a b (omega arith) (omega arith) a_used b_used same)
             (cases_eq b i))
             (cases_eq a i);
       }
@@ -169,7 +169,7 @@ module _ (d : List ℕ) (i : ℕ) (in_table : i < 16) where
               absurd (omega (arith, same.0, p.there.entry)))
               (λ unseen. unseen)
               (cases_Bool (has (blocks_to d i) (block_of d i k)));
-          once = λ k l k-in l-in same. (s.one_block i k i l (place k used k-in) (place l used l-in) same).1;
+          once = λ k l k_in l_in same. (s.one_block i k i l (place k used k_in) (place l used l_in) same).1;
         };
       }
 
@@ -183,7 +183,7 @@ module _ (d : List ℕ) (i : ℕ) (in_table : i < 16) where
     from_8 = λ j k p. s.from_8 j k (place_more d i j k p);
     on_disk = λ j k p. s.on_disk j k (place_more d i j k p);
     one_block = λ a k b l p q. s.one_block a k b l (place_more d i a k p) (place_more d i b l q);
-    one_name = λ a b a_in b-in. s.one_name a b (omega arith) (omega arith);
+    one_name = λ a b a_in b_in. s.one_name a b (omega arith) (omega arith);
   }
 
 size_decides : (d : List ℕ) → Decides (size_ok d) (SoundTo d 0)

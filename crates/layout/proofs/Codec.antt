@@ -34,11 +34,11 @@ tail_fields bs n =
 pub encoded-decoded : (bs : List ℕ) → length bs ≡ 32 → get_or bs 12 0 < 256 → get_or bs 0 0 ≤ 1 → encoded (decoded bs) ≡ bs
 unfolding encoded decoded
 encoded-decoded bs n low first =
-    let from-12 : (get_or bs 12 0 + 256 * get_or bs 13 0) % 256 ∷ ((get_or bs 12 0 + 256 * get_or bs 13 0) / 256 ∷ (take 16 (drop 14 bs) ++ take 2 (drop 30 bs))) ≡ drop 12 bs =
+    let from_12 : (get_or bs 12 0 + 256 * get_or bs 13 0) % 256 ∷ ((get_or bs 12 0 + 256 * get_or bs 13 0) / 256 ∷ (take 16 (drop 14 bs) ++ take 2 (drop 30 bs))) ≡ drop 12 bs =
     rw (low_byte _ _ low, high_byte _ _ low, tail_fields bs n) (ap (λ t. get_or bs 12 0 ∷ t) (sym (drop_more bs 13 0 (omega arith))) ∙ sym (drop_more bs 12 0 (omega arith))) in
-    let from-1 : take 11 (drop 1 bs) ++ drop 12 bs ≡ drop 1 bs =
+    let from_1 : take 11 (drop 1 bs) ++ drop 12 bs ≡ drop 1 bs =
     ap (λ t. take 11 (drop 1 bs) ++ t) (sym (drop-drop 11 1 bs)) ∙ take-append-drop 11 (drop 1 bs) in
-    rw (flag_back _ first, from-12, from-1) (sym (drop_more bs 0 0 (omega arith)))
+    rw (flag_back _ first, from_12, from_1) (sym (drop_more bs 0 0 (omega arith)))
 
 -- the bytes behind the name, by place
 module _ (x rest : List ℕ) (n : length x ≡ 11) where
@@ -65,23 +65,23 @@ decoded-encoded e n b u =
     }
 
 -- an entry's fields, put one behind the other into 32 bytes
-pub fields_in_place : (e : Entry) (at_1 at-12 at-14 at-30 bytes pair : List ℕ) →
+pub fields_in_place : (e : Entry) (at_1 at_12 at_14 at_30 bytes pair : List ℕ) →
     length e.name.bytes ≡ 11 → length e.blocks ≡ 16 → length e.unread ≡ 2 →
     length at_1 ≡ 32 → take 1 at_1 ≡ cond e.used 1 0 ∷ [] → pair ≡ e.len % 256 ∷ (e.len / 256 ∷ []) →
-    at-12 ≡ replaced at_1 1 e.name.bytes → at-14 ≡ replaced at-12 12 pair → at-30 ≡ replaced at-14 14 e.blocks → bytes ≡ replaced at-30 30 e.unread →
+    at_12 ≡ replaced at_1 1 e.name.bytes → at_14 ≡ replaced at_12 12 pair → at_30 ≡ replaced at_14 14 e.blocks → bytes ≡ replaced at_30 30 e.unread →
     bytes ≡ encoded e
 unfolding encoded
-fields_in_place e at_1 at-12 at-14 at-30 bytes pair n b u long first two name len blocks unread =
+fields_in_place e at_1 at_12 at_14 at_30 bytes pair n b u long first two name len blocks unread =
     let p : length pair ≡ 2 = ap length two in
-    let long-12 : length at-12 ≡ 32 = ap length name ∙ length-replaced at_1 1 e.name.bytes (omega arith) ∙ long in
-    let long-14 : length at-14 ≡ 32 = ap length len ∙ length-replaced at-12 12 pair (omega arith) ∙ long-12 in
-    let long-30 : length at-30 ≡ 32 = ap length blocks ∙ length-replaced at-14 14 e.blocks (omega arith) ∙ long-14 in
-    let all : length bytes ≡ 32 = ap length unread ∙ length-replaced at-30 30 e.unread (omega arith) ∙ long-30 in
-    let to-12 = ap (take 12) name ∙ take-replaced at_1 _ 1 e.name.bytes 12 first (omega arith) (omega arith) in
-    let to-14 = ap (take 14) len ∙ take-replaced at-12 _ 12 pair 14 to-12 (omega arith) (omega arith) in
-    let to-30 = ap (take 30) blocks ∙ take-replaced at-14 _ 14 e.blocks 30 to-14 (omega arith) (omega arith) in
-    let to-32 = ap (take 32) unread ∙ take-replaced at-30 _ 30 e.unread 32 to-30 (omega arith) (omega arith) in
-    sym (take_all 32 bytes (omega arith)) ∙ to-32
+    let long_12 : length at_12 ≡ 32 = ap length name ∙ length-replaced at_1 1 e.name.bytes (omega arith) ∙ long in
+    let long_14 : length at_14 ≡ 32 = ap length len ∙ length-replaced at_12 12 pair (omega arith) ∙ long_12 in
+    let long_30 : length at_30 ≡ 32 = ap length blocks ∙ length-replaced at_14 14 e.blocks (omega arith) ∙ long_14 in
+    let all : length bytes ≡ 32 = ap length unread ∙ length-replaced at_30 30 e.unread (omega arith) ∙ long_30 in
+    let to_12 = ap (take 12) name ∙ take-replaced at_1 _ 1 e.name.bytes 12 first (omega arith) (omega arith) in
+    let to_14 = ap (take 14) len ∙ take-replaced at_12 _ 12 pair 14 to_12 (omega arith) (omega arith) in
+    let to_30 = ap (take 30) blocks ∙ take-replaced at_14 _ 14 e.blocks 30 to_14 (omega arith) (omega arith) in
+    let to_32 = ap (take 32) unread ∙ take-replaced at_30 _ 30 e.unread 32 to_30 (omega arith) (omega arith) in
+    sym (take_all 32 bytes (omega arith)) ∙ to_32
     ∙ append_assoc (cond e.used 1 0 ∷ (e.name.bytes ++ pair)) e.blocks e.unread
     ∙ append_assoc (cond e.used 1 0 ∷ e.name.bytes) pair (e.blocks ++ e.unread)
     ∙ ap (λ p. cond e.used 1 0 ∷ (e.name.bytes ++ (p ++ (e.blocks ++ e.unread)))) two

@@ -14,8 +14,8 @@ block_cut d b from to is end =
     ⊎_elim
     (λ off.
     let past : length d ≤ from = omega arith in
-    let past-block : length d ≤ 64 * b = omega arith in
-    ap (take (to - from)) (drop_all from d past) ∙ take_nil (to - from) ∙ sym (ap (take 64) (drop_all (64 * b) d past-block)))
+    let past_block : length d ≤ 64 * b = omega arith in
+    ap (take (to - from)) (drop_all from d past) ∙ take_nil (to - from) ∙ sym (ap (take 64) (drop_all (64 * b) d past_block)))
     (λ (on : b * 64 ≤ length d).
     let start : from ≡ 64 * b = omega arith in
     let size : to - from ≡ min 64 (length d - 64 * b) = omega arith in

@@ -22,9 +22,9 @@ drop_min n xs =
     (cases_lt n (length xs))
 
 -- what a write through `&mut bs[at..at + k]` leaves
-pub putMid_replaced : (at k : ℕ) (bs now p : List ℕ) → now ≡ p → k ≡ length p → put_mid at k bs now ≡ replaced bs at p
+pub put_mid-replaced : (at k : ℕ) (bs now p : List ℕ) → now ≡ p → k ≡ length p → put_mid at k bs now ≡ replaced bs at p
 unfolding replaced
-putMid_replaced at k bs now p is n = rw (is, n) (ap (λ t. take at bs ++ (p ++ t)) (drop-drop (length p) at bs))
+put_mid-replaced at k bs now p is n = rw (is, n) (ap (λ t. take at bs ++ (p ++ t)) (drop-drop (length p) at bs))
 
 pub length-replaced : (bs : List ℕ) (at : ℕ) (p : List ℕ) → at + length p ≤ length bs → length (replaced bs at p) ≡ length bs
 unfolding replaced
@@ -79,4 +79,4 @@ part-replaced bs at p h = ap (take (length p)) (drop_at (take at bs) _ at (lengt
 
 pub part-behind-replaced : (bs : List ℕ) (at : ℕ) (p : List ℕ) (from n : ℕ) → at + length p ≤ length bs → at + length p ≤ from → take n (drop from (replaced bs at p)) ≡ take n (drop from bs)
 part-behind-replaced bs at p from n h behind =
-    ap (λ t. take n (drop from t)) (sym (putMid_replaced at (length p) bs p p refl refl)) ∙ ap (take n) (drop-put_mid at (length p) bs p from behind (omega arith) refl)
+    ap (λ t. take n (drop from t)) (sym (put_mid-replaced at (length p) bs p p refl refl)) ∙ ap (take n) (drop-put_mid at (length p) bs p from behind (omega arith) refl)

@@ -48,7 +48,7 @@ module _ (n : ℕ) (fits : size_fits n ≡ true) where
     from_8 = λ i k p. absurd (unused i p.entry p.used);
     on_disk = λ i k p. absurd (unused i p.entry p.used);
     one_block = λ i k j l p q same. absurd (unused i p.entry p.used);
-    one_name = λ i j i-in j-in used used₁ same. absurd (unused i i-in used);
+    one_name = λ i j i_in j_in used used₁ same. absurd (unused i i_in used);
   })
 
   pub zeros_empty : (y : List ℕ) → file (replicate (64 * n) 0) y ≡ None

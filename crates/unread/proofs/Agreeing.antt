@@ -25,31 +25,31 @@ module _ (d : List ℕ) where
 
   -- the kinds of unread bytes of an entry
   kind_in_entry : (k i j : ℕ) → i < 16 → j < 32 → k ≡ 32 * i + j → read_of_entry (entry_at d i) ≤ j → Unread d k
-  kind_in_entry k i j i-in j-in at behind =
+  kind_in_entry k i j i_in j_in at behind =
       ⊎_elim
       (λ used.
       let read = read_of_used (entry_at d i) used in
       ⊎_elim
-      (λ number. not_needed i (j - 14) i-in used (omega arith) (omega arith) (omega arith))
-      (λ last. last_two i j i-in last j-in at)
+      (λ number. not_needed i (j - 14) i_in used (omega arith) (omega arith) (omega arith))
+      (λ last. last_two i j i_in last j_in at)
       (cases_lt j 30))
-      (λ unused. not_in_use i j i-in unused (omega (arith, read_of_unused (entry_at d i) unused)) j-in at)
+      (λ unused. not_in_use i j i_in unused (omega (arith, read_of_unused (entry_at d i) unused)) j_in at)
       (cases_Bool (entry_at d i).used)
 
   -- the kinds of unread bytes of a block
   kind_in_block : (k b j : ℕ) → 8 ≤ b → b < size d → j < 64 → k ≡ 64 * b + j → (Reached d 16 b j → ⊥) → Unread d k
   unfolding in_use
-  kind_in_block k b j from_8 on_disk j-in at none =
+  kind_in_block k b j from_8 on_disk j_in at none =
       ⊎_elim
       (λ there.
       let p = has_places d 16 b there in
-      past_end p.entry p.place j p.there j-in
+      past_end p.entry p.place j p.there j_in
       (⊎_elim
       (λ before. absurd (none (record { entry = p.entry; place = p.place; there = p.there; is = p.is; before_end = before })))
       (λ ended. ended)
       (cases_lt (64 * p.place + j) (entry_at d p.entry).len))
       (at ∙ ap (λ c. 64 * c + j) (sym p.is)))
-      (λ free. in_free_block b j from_8 on_disk free j-in at)
+      (λ free. in_free_block b j from_8 on_disk free j_in at)
       (cases_Bool (in_use d b))
 
   none_in_free-block : (b j : ℕ) → in_use d b ≡ false → Reached d 16 b j → ⊥
@@ -59,15 +59,15 @@ module _ (d : List ℕ) where
 module _ (d : List ℕ) (s : Sound d) where
   -- a byte of an entry is unread just if it is behind those that are read
   entry_byte_decides : (i j : ℕ) → i < 16 → j < 32 → Decides (unread d (32 * i + j)) (read_of_entry (entry_at d i) ≤ j)
-  entry_byte_decides i j i-in j-in =
-      Decides-at _ _ (unread_in_entry d i j i-in j-in (omega (arith, sound_long d 16 s))) (leb-true _ j, le-leb _ j)
+  entry_byte_decides i j i_in j_in =
+      Decides-at _ _ (unread_in_entry d i j i_in j_in (omega (arith, sound_long d 16 s))) (leb-true _ j, le-leb _ j)
 
   -- a byte of a block is unread just if no file has it
   block_byte_decides : (b j : ℕ) → 8 ≤ b → b < size d → j < 64 → Decides (unread d (64 * b + j)) (Reached d 16 b j → ⊥)
-  block_byte_decides b j from_8 on_disk j-in =
+  block_byte_decides b j from_8 on_disk j_in =
       Decides-at _ _
-      (unread_in_block d b j from_8 j-in (omega (arith, s.whole)) ∙ leb_not_ltb (read_of_block d b 16) j)
-      (Decides-not _ (reached_decides d 16 b j j-in))
+      (unread_in_block d b j from_8 j_in (omega (arith, s.whole)) ∙ leb_not_ltb (read_of_block d b 16) j)
+      (Decides-not _ (reached_decides d 16 b j j_in))
 
   kind_of_unread : (k : ℕ) → unread d k ≡ true → Unread d k
   kind_of_unread k is =
@@ -89,11 +89,11 @@ module _ (d : List ℕ) (s : Sound d) where
       omega (arith, same.1, ap (λ e. (entry_at d e).len) same.0, r.before_end)
 
   unread_of_kind : (k : ℕ) → Unread d k → unread d k ≡ true
-  unread_of_kind k (last_two i j i-in from j-in at) = ap (unread d) at ∙ (entry_byte_decides i j i-in j-in).1 (omega (arith, read_of_entry_most d i s i-in))
-  unread_of_kind k (not_in_use i j i-in unused from j-in at) = ap (unread d) at ∙ (entry_byte_decides i j i-in j-in).1 (omega (arith, read_of_unused (entry_at d i) unused))
-  unread_of_kind k (not_needed i m i-in used from m-in at) = ap (unread d) at ∙ (entry_byte_decides i (14 + m) i-in (omega arith)).1 (omega (arith, read_of_used (entry_at d i) used))
-  unread_of_kind k (past_end i m j there j-in ended at) = ap (unread d) at ∙ (block_byte_decides (block_of d i m) j (s.from_8 i m there) (s.on_disk i m there) j-in).1 (none_past_end i m j there ended)
-  unread_of_kind k (in_free_block b j from_8 on_disk free j-in at) = ap (unread d) at ∙ (block_byte_decides b j from_8 on_disk j-in).1 (none_in_free-block d b j free)
+  unread_of_kind k (last_two i j i_in from j_in at) = ap (unread d) at ∙ (entry_byte_decides i j i_in j_in).1 (omega (arith, read_of_entry_most d i s i_in))
+  unread_of_kind k (not_in_use i j i_in unused from j_in at) = ap (unread d) at ∙ (entry_byte_decides i j i_in j_in).1 (omega (arith, read_of_unused (entry_at d i) unused))
+  unread_of_kind k (not_needed i m i_in used from m-in at) = ap (unread d) at ∙ (entry_byte_decides i (14 + m) i_in (omega arith)).1 (omega (arith, read_of_used (entry_at d i) used))
+  unread_of_kind k (past_end i m j there j_in ended at) = ap (unread d) at ∙ (block_byte_decides (block_of d i m) j (s.from_8 i m there) (s.on_disk i m there) j_in).1 (none_past_end i m j there ended)
+  unread_of_kind k (in_free_block b j from_8 on_disk free j_in at) = ap (unread d) at ∙ (block_byte_decides b j from_8 on_disk j_in).1 (none_in_free-block d b j free)
 
 pub kinds_decide : (d : List ℕ) → sound d ≡ true → (k : ℕ) → Decides (unread d k) (Unread d k)
 kinds_decide d ok k = let s = sound_to_rules d ok in (kind_of_unread d s k, unread_of_kind d s k)

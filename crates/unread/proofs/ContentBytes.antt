@@ -23,7 +23,7 @@ joined_byte f (b ∷ bs) p each lt =
     let place : suc ((p - 64) / 64) ≡ p / 64 = omega arith in
     let rest : (p - 64) % 64 ≡ p % 64 = omega arith in
     get_or-append_right (f b) (flat_map f bs) 64 p 0 first more
-    ∙ joined_byte f bs (p - 64) (λ k k-in. each (suc k) (omega arith)) (omega arith)
+    ∙ joined_byte f bs (p - 64) (λ k k_in. each (suc k) (omega arith)) (omega arith)
     ∙ (λ j. get_or (f (get_or (b ∷ bs) (place j) 0)) (rest j) 0))
     (cases_lt p 64)
 
@@ -37,7 +37,7 @@ content_byte d i p s in_table used lt =
     let e = entry_at d i in
     let many = length-blocks_at d 16 i s in_table in_table used in
     let whole : (k : ℕ) → k < length (blocks_of e) → length (block d (get_or (blocks_of e) k 0)) ≡ 64 =
-    λ k k-in. length-block d _ (omega (arith, s.whole, s.on_disk i k (record { entry = in_table; used = used; within = k-in }))) in
+    λ k k_in. length-block d _ (omega (arith, s.whole, s.on_disk i k (record { entry = in_table; used = used; within = k_in }))) in
     get_or-take e.len (flat_map (block d) (blocks_of e)) p 0 lt
     ∙ joined_byte (block d) (blocks_of e) p whole (omega arith)
     ∙ block_byte d (block_of d i (p / 64)) (p % 64) (omega arith)

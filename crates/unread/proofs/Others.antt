@@ -205,11 +205,11 @@ module _ (d : List ℕ) (s : Sound d) (i : ℕ) (in_table : i < 16) where
   used_noticed used j lt =
       let at : (k : ℕ) → k ≡ 32 * i + j → Noticed d k → Noticed d (32 * i + j) = λ k same. subst (Noticed d) same in
       ⊎_elim
-      (λ less-12. ⊎_elim (λ less-1. at _ (omega arith) flag_noticed) (λ ge-1. at _ (omega arith) (name_noticed used (j - 1) (omega arith))) (cases_lt j 1))
-      (λ ge-12.
+      (λ less_12. ⊎_elim (λ less_1. at _ (omega arith) flag_noticed) (λ ge_1. at _ (omega arith) (name_noticed used (j - 1) (omega arith))) (cases_lt j 1))
+      (λ ge_12.
       ⊎_elim
-      (λ less-14. ⊎_elim (λ less-13. at _ (omega arith) (low_length_noticed used)) (λ ge-13. at _ (omega arith) (high_length_noticed used)) (cases_lt j 13))
-      (λ ge-14. at _ (omega arith) (number_noticed used (j - 14) (omega arith)))
+      (λ less_14. ⊎_elim (λ less_13. at _ (omega arith) (low_length_noticed used)) (λ ge_13. at _ (omega arith) (high_length_noticed used)) (cases_lt j 13))
+      (λ ge_14. at _ (omega arith) (number_noticed used (j - 14) (omega arith)))
       (cases_lt j 14))
       (cases_lt j 12)
 
@@ -255,7 +255,7 @@ pub no_others : (d : List ℕ) → sound d ≡ true → (k : ℕ) → k < length
 no_others d ok k lt read =
     let s = sound_to_rules d ok in
     ⊎_elim
-    (λ in-entries.
+    (λ in_entries.
     let i = k / 32 in
     let j = k % 32 in
     let at : 32 * i + j ≡ k = omega arith in

@@ -32,6 +32,6 @@ module _ (d : List ℕ) (w : Write) (f : Fits d w) (low : 8 ≤ w.to) (unused : 
       let r = read_after_data in
       same_file d (after_write d w) r (λ i lt used.
       same_content d (after_write d w) (entry_at d i) (entry_at (after_write d w) i) (r.len i lt used) (r.blocks i lt used)
-      (λ k k-in.
+      (λ k k_in.
       block_kept d w f (block_of d i k)
-      (λ same. both_ways _ unused (ap (has (blocks_to d 16)) (sym same) ∙ place_has d 16 i k (record { entry = lt; used = used; within = k-in })))))
+      (λ same. both_ways _ unused (ap (has (blocks_to d 16)) (sym same) ∙ place_has d 16 i k (record { entry = lt; used = used; within = k_in })))))

@@ -116,13 +116,13 @@ fit_unseen d e u i bs fit =
       low = fit.low;
       high = λ used k lt. subst (λ n. get_or (blocks_of (decoded bs)) k 0 < n) (sym (same_size d e u.read)) (fit.high used k lt);
       once = fit.once;
-      apart = λ used j k l p other l-in same.
+      apart = λ used j k l p other l_in same.
           let here = at j p.entry in
           fit.apart used j k l (record {
             entry = p.entry;
             used = ap (λ (x : Entry). x.used) (sym here) ∙ p.used;
             within = subst (λ (x : Entry). k < length (blocks_of x)) here p.within;
-          }) other l-in (ap (λ (x : Entry). get_or (blocks_of x) k 0) (sym here) ∙ same);
+          }) other l_in (ap (λ (x : Entry). get_or (blocks_of x) k 0) (sym here) ∙ same);
       new_name = λ used j lt other is same.
           let here = sym (at j lt) in
           fit.new_name used j lt other (ap (λ (x : Entry). x.used) here ∙ is) (ap (λ (x : Entry). x.name) here ∙ same);

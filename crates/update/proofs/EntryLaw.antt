@@ -112,31 +112,31 @@ module _ (d : List ℕ) (i : ℕ) (e d₁ : List ℕ) (in_table : i < 16) (s : S
         (cases_eq j i));
     one_block = λ a k b l p q same.
         ⊎_elim
-        (λ a-new.
-        let used = new_used a a-new p.used in
-        let k-in = new_within a k a-new p.within in
+        (λ a_new.
+        let used = new_used a a_new p.used in
+        let k_in = new_within a k a_new p.within in
         ⊎_elim
-        (λ b-new. (a-new ∙ sym b-new, fit.once used k l k-in (new_within b l b-new q.within) (sym (new_block a k a-new) ∙ same ∙ new_block b l b-new)))
-        (λ b-old. absurd (fit.apart used b l k (old_place b l b-old q) b-old k-in (sym (old_block b l q.entry b-old) ∙ sym same ∙ new_block a k a-new)))
+        (λ b_new. (a_new ∙ sym b_new, fit.once used k l k_in (new_within b l b_new q.within) (sym (new_block a k a_new) ∙ same ∙ new_block b l b_new)))
+        (λ b_old. absurd (fit.apart used b l k (old_place b l b_old q) b_old k_in (sym (old_block b l q.entry b_old) ∙ sym same ∙ new_block a k a_new)))
         (cases_eq b i))
-        (λ a-old.
+        (λ a_old.
         ⊎_elim
-        (λ b-new. absurd (fit.apart (new_used b b-new q.used) a k l (old_place a k a-old p) a-old (new_within b l b-new q.within) (sym (old_block a k p.entry a-old) ∙ same ∙ new_block b l b-new)))
-        (λ b-old. s.one_block a k b l (old_place a k a-old p) (old_place b l b-old q) (sym (old_block a k p.entry a-old) ∙ same ∙ old_block b l q.entry b-old))
+        (λ b_new. absurd (fit.apart (new_used b b_new q.used) a k l (old_place a k a_old p) a_old (new_within b l b_new q.within) (sym (old_block a k p.entry a_old) ∙ same ∙ new_block b l b_new)))
+        (λ b_old. s.one_block a k b l (old_place a k a_old p) (old_place b l b_old q) (sym (old_block a k p.entry a_old) ∙ same ∙ old_block b l q.entry b_old))
         (cases_eq b i))
         (cases_eq a i);
-    one_name = λ a b a_in b-in a-used b-used same.
+    one_name = λ a b a_in b_in a_used b_used same.
         let name : Entry → Name = λ x. x.name in
         ⊎_elim
-        (λ a-new.
+        (λ a_new.
         ⊎_elim
-        (λ b-new. a-new ∙ sym b-new)
-        (λ b-old. absurd (fit.new_name (new_used a a-new a-used) b b-in b-old (old_used b b-in b-old b-used) (ap name (sym (at_other b b-in b-old)) ∙ sym same ∙ ap name (is_new a a-new))))
+        (λ b_new. a_new ∙ sym b_new)
+        (λ b_old. absurd (fit.new_name (new_used a a_new a_used) b b_in b_old (old_used b b_in b_old b_used) (ap name (sym (at_other b b_in b_old)) ∙ sym same ∙ ap name (is_new a a_new))))
         (cases_eq b i))
-        (λ a-old.
+        (λ a_old.
         ⊎_elim
-        (λ b-new. absurd (fit.new_name (new_used b b-new b-used) a a_in a-old (old_used a a_in a-old a-used) (ap name (sym (at_other a a_in a-old)) ∙ same ∙ ap name (is_new b b-new))))
-        (λ b-old. s.one_name a b a_in b-in (old_used a a_in a-old a-used) (old_used b b-in b-old b-used) (ap name (sym (at_other a a_in a-old)) ∙ same ∙ ap name (at_other b b-in b-old)))
+        (λ b_new. absurd (fit.new_name (new_used b b_new b_used) a a_in a_old (old_used a a_in a_old a_used) (ap name (sym (at_other a a_in a_old)) ∙ same ∙ ap name (is_new b b_new))))
+        (λ b_old. s.one_name a b a_in b_in (old_used a a_in a_old a_used) (old_used b b_in b_old b_used) (ap name (sym (at_other a a_in a_old)) ∙ same ∙ ap name (at_other b b_in b_old)))
         (cases_eq b i))
         (cases_eq a i);
   }
@@ -152,24 +152,24 @@ module _ (d : List ℕ) (i : ℕ) (e d₁ : List ℕ) (in_table : i < 16) (s : S
   content_other : (j : ℕ) → j < 16 → (j ≡ i → ⊥) → Used d j → content d₁ (entry_at d₁ j) ≡ content d (entry_at d j)
   content_other j lt other used =
       ap (content d₁) (at_other j lt other)
-      ∙ content_kept d d₁ (entry_at d j) r.blocks (λ k k-in. s.from_8 j k (record { entry = lt; used = used; within = k-in }))
+      ∙ content_kept d d₁ (entry_at d j) r.blocks (λ k k_in. s.from_8 j k (record { entry = lt; used = used; within = k_in }))
 
   -- under a name that entry i had neither before nor has now, the file is as it was
   pub file_other : (x : List ℕ) → (Named d x i → ⊥) → (Named d₁ x i → ⊥) → file d₁ x ≡ file d x
   unfolding file
   file_other x not-before not-now =
       let f = find_first d x in
-      let not-i : find d x < 16 → find d x ≡ i → ⊥ = λ lt same. not-before (subst (Named d x) same (f.here lt)) in
+      let not_i : find d x < 16 → find d x ≡ i → ⊥ = λ lt same. not-before (subst (Named d x) same (f.here lt)) in
       let first : First d₁ x (find d x) = record {
         within = f.within;
-        here = λ lt. named-after x (find d x) lt (not-i lt) (f.here lt);
+        here = λ lt. named-after x (find d x) lt (not_i lt) (f.here lt);
         before = λ k lt p. ⊎_elim (λ same. not-now (subst (Named d₁ x) same p)) (λ other. f.before k lt (named_before x k (omega (arith, f.within)) other p)) (cases_eq k i);
       } in
       let same_find : find d₁ x ≡ find d x = first_unique d₁ x _ _ (find_first d₁ x) first in
       ⊎_elim
       (λ lt.
       ap (option_map (content d₁)) (entry_of_here d₁ x (subst (λ n. n < 16) (sym same_find) lt))
-      ∙ ap (λ n. Some (content d₁ (entry_at d₁ n))) same_find ∙ ap Some (content_other (find d x) lt (not-i lt) (f.here lt).0) ∙ sym (ap (option_map (content d)) (entry_of_here d x lt)))
+      ∙ ap (λ n. Some (content d₁ (entry_at d₁ n))) same_find ∙ ap Some (content_other (find d x) lt (not_i lt) (f.here lt).0) ∙ sym (ap (option_map (content d)) (entry_of_here d x lt)))
       (λ ge. ap (option_map (content d₁)) (entry_of_none d₁ x (subst (λ n. 16 ≤ n) (sym same_find) ge)) ∙ sym (ap (option_map (content d)) (entry_of_none d x ge)))
       (cases_lt (find d x) 16)
 

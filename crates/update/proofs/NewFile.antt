@@ -122,9 +122,9 @@ unfolding after_writes data_writes
 holds_after_data d [] c once on_disk = tt
 holds_after_data d (b ∷ bs) c once on_disk =
     let d₁ = after_write d (first_write b c) in
-    let on-disk₁ = rest_on_disk d b bs c on_disk in (
-      kept_by_data d₁ bs (drop 64 c) b (once_new b bs once) on-disk₁ (length bs) ∙ block_written d (first_write b c) (first_fits d b bs c on_disk),
-      holds_after_data d₁ bs (drop 64 c) (once_rest b bs once) on-disk₁,
+    let on_disk₁ = rest_on_disk d b bs c on_disk in (
+      kept_by_data d₁ bs (drop 64 c) b (once_new b bs once) on_disk₁ (length bs) ∙ block_written d (first_write b c) (first_fits d b bs c on_disk),
+      holds_after_data d₁ bs (drop 64 c) (once_rest b bs once) on_disk₁,
     )
 
 -- so the file that the new entry describes is the one that was put

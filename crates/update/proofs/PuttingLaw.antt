@@ -83,10 +83,10 @@ module _ (d x c : List ℕ) (s : Sound d) (good : good_name x ≡ true) (fits : 
   chosen_on_disk k lt = let w = s.whole in let f = (chosen-free k lt).1 in omega arith
 
   chosen_once : Once (chosen d c)
-  chosen_once k l k-in l-in same =
+  chosen_once k l k_in l_in same =
       let m = many in
       let h = enough in
-      free_once d k l (omega arith) (omega arith) (sym (chosen_at k k-in) ∙ same ∙ chosen_at l l-in)
+      free_once d k l (omega arith) (omega arith) (sym (chosen_at k k_in) ∙ same ∙ chosen_at l l_in)
 
   -- the entry that has the place has the name, or is not in use
   place_named : find d x < 16 → place_for d x ≡ find d x
@@ -129,9 +129,9 @@ module _ (d x c : List ℕ) (s : Sound d) (good : good_name x ≡ true) (fits : 
         short = λ _. subst (λ n. n ≤ 1024) (sym (entry_len x c bs eleven short many)) short;
         low = λ _ k lt. subst (λ b. 8 ≤ b) (sym (at k)) (chosen-free k (within k lt)).0;
         high = λ _ k lt. subst (λ b. b < size d) (sym (at k)) (chosen-free k (within k lt)).1;
-        once = λ _ k l k-in l-in same. chosen_once k l (within k k-in) (within l l-in) (sym (at k) ∙ same ∙ at l);
-        apart = λ _ j k l p other l-in same.
-            both_ways _ (chosen-free l (within l l-in)).2 (ap (has (blocks_to d 16)) (sym (same ∙ at l)) ∙ place_has d 16 j k p);
+        once = λ _ k l k_in l_in same. chosen_once k l (within k k_in) (within l l_in) (sym (at k) ∙ same ∙ at l);
+        apart = λ _ j k l p other l_in same.
+            both_ways _ (chosen-free l (within l l_in)).2 (ap (has (blocks_to d 16)) (sym (same ∙ at l)) ∙ place_has d 16 j k p);
         new_name = λ _ j lt other used same. other (only_place j lt (used, ap (λ (n : Name). n.bytes) same ∙ entry_name x c bs eleven short many));
       }
 
@@ -175,8 +175,8 @@ module _ (d x c : List ℕ) (s : Sound d) (good : good_name x ≡ true) (fits : 
       let name = entry_name x c bs eleven short many in
       ⊎_elim
       (λ same.
-      let x-is-y : x ≡ y = (bytes_eq-Decides x y).0 same in
-      ap (file (after_writes n d (put_writes d x c))) (sym x-is-y ∙ sym name) ∙ planned_new d (data_writes bs c) (place_for d x) e s planned n more used ∙ ap Some content_new ∙ sym (cond-true _ _ _ same))
+      let x_is_y : x ≡ y = (bytes_eq-Decides x y).0 same in
+      ap (file (after_writes n d (put_writes d x c))) (sym x_is_y ∙ sym name) ∙ planned_new d (data_writes bs c) (place_for d x) e s planned n more used ∙ ap Some content_new ∙ sym (cond-true _ _ _ same))
       (λ other.
       let apart : x ≡ y → ⊥ = not_from_Decides _ (bytes_eq-Decides x y) other in
       planned_other d (data_writes bs c) (place_for d x) e s planned n more y (no_other_name y apart) (λ _ is. apart (sym name ∙ is)) ∙ sym (cond-false _ _ _ other))

@@ -55,6 +55,6 @@ after-append d (r ∷ rs) a = after-append (step d r) rs a
 -- the promise for one request more
 pub as_done_next : ((d : List ℕ) (a : Asked) → Lawful d a) → (d : List ℕ) (a : Asked) (d₁ : List ℕ) → (sound d ≡ true → d₁ ≡ step d a) → AsDoneNext d a d₁
 as_done_next l d a d₁ is d₀ rs ok from =
-    let sound-here : sound d ≡ true = ap sound from ∙ (as_done l d₀ rs).sound_still ok in
-    let there : after d₀ (rs ++ a ∷ []) ≡ d₁ = after-append d₀ rs a ∙ ap (λ e. step e a) (sym from) ∙ sym (is sound-here) in
+    let sound_here : sound d ≡ true = ap sound from ∙ (as_done l d₀ rs).sound_still ok in
+    let there : after d₀ (rs ++ a ∷ []) ≡ d₁ = after-append d₀ rs a ∙ ap (λ e. step e a) (sym from) ∙ sym (is sound_here) in
     subst (AsDone d₀ (rs ++ a ∷ [])) there (as_done l d₀ (rs ++ a ∷ []))

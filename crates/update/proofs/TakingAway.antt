@@ -65,8 +65,8 @@ module _ (d x : List ℕ) (s : Sound d) (lt : find d x < 16) where
       let named = (find_first d x).here lt in
       ⊎_elim
       (λ same.
-      let x-is-y : x ≡ y = (bytes_eq-Decides x y).0 same in
-      file_gone d (find d x) (unused_bytes d (find d x)) _ lt s fit_unused replaced_unused y (named.0, named.1 ∙ x-is-y) (unnamed y) ∙ sym (cond-true _ _ _ same))
+      let x_is_y : x ≡ y = (bytes_eq-Decides x y).0 same in
+      file_gone d (find d x) (unused_bytes d (find d x)) _ lt s fit_unused replaced_unused y (named.0, named.1 ∙ x_is_y) (unnamed y) ∙ sym (cond-true _ _ _ same))
       (λ other.
       let apart : x ≡ y → ⊥ = not_from_Decides _ (bytes_eq-Decides x y) other in
       file_other d (find d x) (unused_bytes d (find d x)) _ lt s fit_unused replaced_unused y (λ p. apart (sym named.1 ∙ p.1)) (unnamed y) ∙ sym (cond-false _ _ _ other))

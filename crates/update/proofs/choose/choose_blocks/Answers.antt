@@ -28,16 +28,16 @@ loop-b-preserved c =
     let there : has_entries d ≡ true = le-leb 512 (length d) (omega (arith, sound_long d 16 (sound_to_rules d c.requires.0))) in
     let at : 8 + m ≡ b = omega arith in
     let next : suc m ≡ (b + 1) - 8 = omega arith in
-    let in-set : (t : Bool) → t ≡ member c.blocks_in_use-used.result b → in_use d (8 + m) ≡ t =
+    let in_set : (t : Bool) → t ≡ member c.blocks_in_use-used.result b → in_use d (8 + m) ≡ t =
     λ t is. ap (in_use d) at ∙ sym (is ∙ c.blocks_in_use-used.ensures.members b ∙ ap (λ a. a && in_use d b) there) in
     let inv : Chosen d k m n bs = c.loop-b.invariant in
     elim c.if-n-needed.branch [
       | then-n-needed+then-not-contains w ↦
-          let more = chosen_more d k m n bs w.if-n-needed.true c.requires.1 (in-set false w.if-not-contains.ensures) inv in
+          let more = chosen_more d k m n bs w.if-n-needed.true c.requires.1 (in_set false w.if-not-contains.ensures) inv in
           chosen_as d k (suc m) (n + 1) (set bs n (8 + m)) _ _ _ next w.n-is (w.chosen-is ∙ ap (set bs n) (sym at)) more
       | else-n-needed w ↦
           let same : Chosen d k (suc m) n bs = elim w.else-n-needed.branch [
-            | else-n-needed-via-then-n-needed+else-not-contains v ↦ chosen_used d k m n bs (in-set true v.if-not-contains.ensures) inv
+            | else-n-needed-via-then-n-needed+else-not-contains v ↦ chosen_used d k m n bs (in_set true v.if-not-contains.ensures) inv
             | else-n-needed-via-else-n-needed v ↦ chosen_enough d k m n bs v.if-n-needed.false inv
           ] in
           chosen_as d k (suc m) n bs _ _ _ next w.n-is w.chosen-is same

@@ -1,7 +1,7 @@
 use Rattle.std.proofs.Common.{◌≡◌, ◌+◌, ◌-◌, ◌*◌, ◌/◌, ◌%◌, length, take, drop, ◌∙◌, mul_comm, arith, rules}
 use Rattle.layout.specs.Files.{block}
 use Rattle.layout.specs.Parts.{replaced}
-use Rattle.layout.proofs.Slices.{putMid_replaced}
+use Rattle.layout.proofs.Slices.{put_mid-replaced}
 use Rattle.update.specs.Writes.{entry_write}
 use Rattle.update.proofs.write.entry_write.Goals as goal
 
@@ -15,5 +15,5 @@ returns c =
     let half : (i % 2 * 32 + 32) - i % 2 * 32 ≡ length e = omega arith in
     let whole : (i / 2 * 64 + 64) - i / 2 * 64 ≡ 64 = omega arith in
     let copied : c.copy_from_slice.new.self ≡ block d (i / 2) = c.copy_from_slice.ensures.after ∙ (λ j. take (whole j) (drop (mul_comm (i / 2) 64 j) d)) in
-    let written = putMid_replaced (i % 2 * 32) _ _ _ e c.copy_from_slice-2.ensures.after half ∙ (λ j. replaced (copied j) (mul_comm (i % 2) 32 j) e) in
+    let written = put_mid-replaced (i % 2 * 32) _ _ _ e c.copy_from_slice-2.ensures.after half ∙ (λ j. replaced (copied j) (mul_comm (i % 2) 32 j) e) in
     λ j. record { to = i / 2; bytes = written j }

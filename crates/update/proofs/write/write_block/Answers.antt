@@ -1,6 +1,6 @@
 use Rattle.std.proofs.Common.{◌≡◌, ◌+◌, ◌-◌, ◌*◌, length, ap, ◌∙◌, mul_comm, arith, rules}
 use Rattle.layout.specs.Parts.{replaced}
-use Rattle.layout.proofs.Slices.{putMid_replaced}
+use Rattle.layout.proofs.Slices.{put_mid-replaced}
 use Rattle.update.specs.Writes.{after_write}
 use Rattle.update.proofs.write.write_block.Goals as goal
 
@@ -12,4 +12,4 @@ returns c =
     let bytes = c.args.write.now.bytes in
     let long : length bytes ≡ 64 = search rules in
     let size : (b * 64 + 64) - b * 64 ≡ length bytes = omega arith in
-    putMid_replaced (b * 64) _ d _ bytes c.fill.ensures size ∙ ap (λ at. replaced d at bytes) (mul_comm b 64)
+    put_mid-replaced (b * 64) _ d _ bytes c.fill.ensures size ∙ ap (λ at. replaced d at bytes) (mul_comm b 64)

@@ -3,7 +3,7 @@ use Rattle.std.specs.List.{flat_map}
 use Rattle.std.proofs.lemmas.List.{length-take}
 use Rattle.layout.specs.Entries.{blocks_of}
 use Rattle.layout.specs.Files.{held, block, content}
-use Rattle.layout.proofs.Slices.{putMid_replaced}
+use Rattle.layout.proofs.Slices.{put_mid-replaced}
 use Rattle.layout.proofs.Copying.{front, length_front_more, copied_more, front_none, front_all, copies_all}
 use Rattle.layout.proofs.disk.Disk.copy_file.Goals as goal
 
@@ -31,7 +31,7 @@ loop-b-preserved c =
     let size : at + n - at ≡ length (take n (f (get_or bs k 0))) = omega arith in (
       omega (arith, c.loop-b.invariant.0),
       length_front_more f bs len k at n lt is some,
-      putMid_replaced at _ c.loop-b.room _ (take n (f (get_or bs k 0))) copied size ∙ copied_more f bs len c.args.room.now k at n c.loop-b.room lt is some c.loop-b.invariant.2,
+      put_mid-replaced at _ c.loop-b.room _ (take n (f (get_or bs k 0))) copied size ∙ copied_more f bs len c.args.room.now k at n c.loop-b.room lt is some c.loop-b.invariant.2,
     )
 
 pub returns : goal.returns
