@@ -3,7 +3,7 @@ ghost use Rattle.std.specs.Prelude.{◌≡◌};
 ghost use Rattle.update.specs.Answers.{number, value};
 
 // Why a request is refused. More reasons come at the end of the list.
-#[derive(Clone, Copy)]
+#[derive(Debug, Clone, Copy, PartialEq, Eq)]
 pub enum Refusal {
     // The disk isn't sound.
     Unsound,
@@ -30,7 +30,7 @@ impl Refusal {
 }
 
 // What a request answers.
-#[derive(Clone, Copy)]
+#[derive(Debug, Clone, Copy, PartialEq, Eq)]
 pub enum Done {
     // All writes were made.
     Finished,

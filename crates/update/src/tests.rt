@@ -44,20 +44,19 @@ fn freed(heap: Global, disk: &[u8], at: usize) -> Result<bool, AllocError> {
 fn from_both_halves_of_a_block(rt: HostRuntime) -> Result<(), Fail> {
     let heap = rt.alloc();
     let mut disk = two_files(heap)?;
-    assert!(rt; matches!(take_away(disk.as_mut_slice(), ROSE, 0), Done::Cut));
+    assert_eq!(rt; take_away(disk.as_mut_slice(), ROSE, 0), Done::Cut);
     assert!(rt; freed(heap, disk.as_slice(), disk.len())?);
-    assert!(rt; matches!(take_away(disk.as_mut_slice(), ROSE, 1), Done::Finished));
+    assert_eq!(rt; take_away(disk.as_mut_slice(), ROSE, 1), Done::Finished);
     assert!(rt; freed(heap, disk.as_slice(), 0)?);
     let mut disk = two_files(heap)?;
-    assert!(rt;
-        matches!(
-            take_away(disk.as_mut_slice(), LEAF, u64::MAX),
-            Done::Finished
-        )
+    assert_eq!(rt;
+        take_away(disk.as_mut_slice(), LEAF, u64::MAX),
+        Done::Finished
     );
     assert!(rt; freed(heap, disk.as_slice(), Disk::ENTRY)?);
-    assert!(rt;
-        matches!(take_away(disk.as_mut_slice(), LEAF, 0), Done::Finished),
+    assert_eq!(rt;
+        take_away(disk.as_mut_slice(), LEAF, 0),
+        Done::Finished,
         "there is none, so nothing is to be written"
     );
     assert!(rt; freed(heap, disk.as_slice(), Disk::ENTRY)?);
@@ -68,25 +67,19 @@ fn from_both_halves_of_a_block(rt: HostRuntime) -> Result<(), Fail> {
 fn refusals(rt: HostRuntime) -> Result<(), Fail> {
     let heap = rt.alloc();
     let mut disk = two_files(heap)?;
-    assert!(rt;
-        matches!(
-            take_away(disk.as_mut_slice(), b"ROSE", 1),
-            Done::Refused(Refusal::BadName)
-        )
+    assert_eq!(rt;
+        take_away(disk.as_mut_slice(), b"ROSE", 1),
+        Done::Refused(Refusal::BadName)
     );
-    assert!(rt;
-        matches!(
-            take_away(disk.as_mut_slice(), b"TULIP      ", 1),
-            Done::Finished
-        )
+    assert_eq!(rt;
+        take_away(disk.as_mut_slice(), b"TULIP      ", 1),
+        Done::Finished
     );
     assert!(rt; freed(heap, disk.as_slice(), disk.len())?);
     disk.truncate(Disk::BLOCK);
-    assert!(rt;
-        matches!(
-            take_away(disk.as_mut_slice(), b"ROSE", 1),
-            Done::Refused(Refusal::Unsound)
-        )
+    assert_eq!(rt;
+        take_away(disk.as_mut_slice(), b"ROSE", 1),
+        Done::Refused(Refusal::Unsound)
     );
     Ok(())
 }
