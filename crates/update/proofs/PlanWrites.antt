@@ -1,8 +1,7 @@
 -- The writes of a plan, one by one. Assumes nothing.
-use Rattle.std.proofs.Common.{◌≡◌, ℕ, zero, suc, ◌+◌, ◌-◌, ◌*◌, ◌<◌, ◌≤◌, min, List, [], ◌∷◌, ◌++◌, length, get_or, take, drop, replicate, Some, None, Option, sym, refl, ap, ◌∙◌, arith, length-drop}
+use Rattle.std.proofs.Common.{◌≡◌, ℕ, zero, suc, ◌+◌, ◌*◌, ◌<◌, ◌≤◌, List, [], ◌∷◌, ◌++◌, length, get_or, drop, Some, None, Option, sym, refl, ap, ◌∙◌, arith}
 use Rattle.std.specs.Option.{option_to_list}
-use Rattle.std.proofs.lemmas.List.{drop-drop, drop_all, drop-replicate}
-use Rattle.layout.proofs.Slices.{take_min}
+use Rattle.std.proofs.lemmas.List.{drop-drop}
 use Rattle.update.specs.Writes.{Write, after_write, after_writes}
 use Rattle.update.specs.Putting.{padded, data_writes}
 use Rattle.update.specs.Plans.{nth_write}
@@ -68,16 +67,3 @@ after_all [] d (suc m) (suc n) a b = refl
 after_all (w ∷ ws) d zero n a b = absurd (omega arith)
 after_all (w ∷ ws) d (suc m) zero a b = absurd (omega arith)
 after_all (w ∷ ws) d (suc m) (suc n) a b = after_all ws (after_write d w) m n (omega arith) (omega arith)
-
--- a part of at most 64 bytes, put in front of zeros
-pub chunk_is : (c : List ℕ) (at n : ℕ) → n ≡ min (length c - at) 64 → take n (drop at c) ++ drop n (replicate 64 0) ≡ padded 64 (drop at c)
-unfolding padded
-chunk_is c at n is =
-    let long : length (drop at c) ≡ length c - at = length-drop at c in
-    let fewer : min 64 (length c - at) ≡ n = omega arith in
-    let rest : 64 - n ≡ 64 - length (drop at c) = omega arith in
-    (λ j. (ap (λ k. take k (drop at c)) (sym fewer) ∙ take_min 64 (length c - at) (drop at c) (omega arith)) j ++ (drop-replicate n 64 0 ∙ ap (λ k. replicate k 0) rest) j)
-
-pub chunk_none : (c : List ℕ) (at : ℕ) → length c ≤ at → replicate 64 0 ≡ padded 64 (drop at c)
-unfolding padded
-chunk_none c at le = ap (λ xs. take 64 xs ++ replicate (64 - length xs) 0) (sym (drop_all at c le))

@@ -1,5 +1,6 @@
 pub mod Answers
 pub mod Writes
+pub mod Listed
 pub mod Putting
 pub mod Plans
 pub mod Requests

@@ -1,17 +1,18 @@
 -- The writes of a plan. Assumes nothing.
-use Rattle.std.specs.Prelude.{◌≡◌, ℕ, zero, suc, ◌+◌, ◌*◌, ◌≤◌, true, false, List, [], ◌∷◌, ◌++◌, length, take, Some, None, Ok, Err, Option, Result}
+use Rattle.std.specs.Prelude.{◌≡◌, ℕ, zero, suc, ◌+◌, ◌*◌, ◌≤◌, true, false, List, [], ◌∷◌, ◌++◌, length, Some, None, Ok, Err, Option, Result}
 use Rattle.std.specs.Option.{option_to_list}
 use Rattle.update.specs.declared.answer.Done.{Done}
 use Rattle.update.specs.declared.plan.Plan.{Plan}
+use Rattle.update.specs.Listed.{listed}
 use Rattle.update.specs.Writes.{Write}
 use Rattle.update.specs.Putting.{data_writes, put_writes, room_for}
 use Rattle.update.specs.Requests.{Asked, writes}
 use Rattle.update.specs.Asking.{refusal, roomy, begun}
 use Rattle.update.specs.Said.{Says}
 
--- the content's bytes into the blocks of the plan, as many as are needed, and then its last write, if it has one
+-- the content's bytes into the blocks of the plan, and then its last write, if it has one
 unfoldable pub plan_writes : Plan → List Write
-plan_writes p = data_writes (take p.needed p.blocks) p.content.now ++ option_to_list p.last
+plan_writes p = data_writes (listed p.blocks) p.content.now ++ option_to_list p.last
 
 -- write k of a list, from 0
 abbrev pub nth_write : List Write → ℕ → Option Write

@@ -1,29 +1,28 @@
 // Where a new file goes: the blocks for its bytes, and the place of its entry.
-ghost use Rattle.std.specs.Prelude.{◌≡◌, ◌≤◌, true, length, take, if◌then◌else◌, Some, None, nat_le, nat_lt};
+ghost use Rattle.std.specs.Prelude.{◌≡◌, ◌<◌, ◌≤◌, true, length, take, if◌then◌else◌, Some, None, MatchOption, nat_lt};
 ghost use Rattle.fsck.specs.Blocks.{free};
 ghost use Rattle.fsck.specs.Sound.{sound};
-ghost use Rattle.update.specs.Putting.{padded, unused_from, place_for};
+ghost use Rattle.update.specs.Listed.{listed};
+ghost use Rattle.update.specs.Putting.{unused_from, place_for};
 
+use crate::block_list::BlockList;
 use fsck::usage::blocks_in_use;
 use layout::disk::Disk;
 use layout::name::Name;
 
-// The lowest free blocks, as many as are needed, with zeros behind them; or none where fewer are free.
-pub(crate) fn choose_blocks(disk: &[u8], needed: usize) -> Option<[u8; Disk::FILE_BLOCKS]>
+// The lowest free blocks, as many as are needed; none where fewer are free.
+pub(crate) fn choose_blocks(disk: &[u8], needed: usize) -> Option<BlockList>
     requires { (sound disk.now ≡ true) × (needed ≤ 16) }
-    ensures { result ≡ (if nat_le needed (length (free disk.now)) then Some (padded 16 (take needed (free disk.now))) else None) }
+    ensures { MatchOption result (length (free disk.now) < needed) (λ chosen. (needed ≤ length (free disk.now)) × (listed chosen ≡ take needed (free disk.now))) }
 {
     let used = blocks_in_use(disk);
     let size = (disk.len() / Disk::BLOCK) as u8;
-    let mut chosen = [0; Disk::FILE_BLOCKS];
-    let mut n = 0;
-    for b in Disk::ENTRY_BLOCKS as u8..size {
-        if n < needed && !used.contains(b) {
-            chosen[n] = b;
-            n += 1;
-        }
+    let free = (Disk::ENTRY_BLOCKS as u8..size).filter(|b| !used.contains(*b));
+    let mut chosen = BlockList::new();
+    for b in free.take(needed) {
+        chosen.push(b);
     }
-    if n < needed {
+    if chosen.as_slice().len() < needed {
         return None;
     }
     Some(chosen)

@@ -4,7 +4,9 @@
 pub mod admit;
 pub mod answer;
 pub mod away;
+mod block_list;
 mod choose;
+mod padded;
 pub mod plan;
 pub mod put;
 pub mod request;

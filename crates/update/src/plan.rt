@@ -10,7 +10,9 @@ ghost use Rattle.update.specs.Plans.{plan_writes, nth_write, PutPlan, PlanSays};
 
 use crate::admit::admit;
 use crate::answer::{Done, Refusal};
+use crate::block_list::BlockList;
 use crate::choose::{choose_blocks, choose_entry};
+use crate::padded::padded;
 use crate::request::Request;
 use crate::write::{Write, entry_write};
 use layout::disk::Disk;
@@ -21,8 +23,7 @@ use layout::name::Name;
 #[derive(Clone, Copy)]
 pub struct Plan<'a> {
     content: &'a [u8],
-    blocks: [u8; Disk::FILE_BLOCKS],
-    needed: usize,
+    blocks: BlockList,
     last: Option<Write>,
 }
 
@@ -30,12 +31,7 @@ pub struct Plan<'a> {
 fn chunk(content: &[u8], at: usize) -> [u8; Disk::BLOCK]
     ensures { result ≡ padded 64 (drop at content.now) }
 {
-    let mut bytes = [0; Disk::BLOCK];
-    if at < content.len() {
-        let n = (content.len() - at).min(Disk::BLOCK);
-        bytes[0..n].copy_from_slice(&content[at..at + n]);
-    }
-    bytes
+    padded(&content[at.min(content.len())..])
 }
 
 // The write of the block that has entry i, with the entry no more in use and all else as it is.
@@ -62,14 +58,13 @@ impl<'a> Plan<'a> {
             used: true,
             name,
             len: content.len() as u16,
-            blocks,
+            blocks: blocks.in_entry(),
             unread: [0, 0],
         };
         let last = entry_write(disk, i, &entry.encode());
         Some(Plan {
             content,
             blocks,
-            needed,
             last: Some(last),
         })
     }
@@ -85,8 +80,7 @@ impl<'a> Plan<'a> {
         };
         Plan {
             content: nothing,
-            blocks: [0; Disk::FILE_BLOCKS],
-            needed: 0,
+            blocks: BlockList::new(),
             last,
         }
     }
@@ -120,17 +114,15 @@ impl<'a> Plan<'a> {
     pub fn write(&self, k: usize) -> Option<Write>
         ensures { result ≡ nth_write (plan_writes self.now) k }
     {
-        let needed = self.needed.min(Disk::FILE_BLOCKS);
-        if k > needed {
-            return None;
-        }
+        let blocks = self.blocks.as_slice();
         // The block of entries comes behind the bytes.
-        let entries = needed;
+        let entries = blocks.len();
         if k == entries {
             return self.last;
         }
+        let block = blocks.get(k)?;
         Some(Write {
-            to: usize::from(self.blocks[k]),
+            to: usize::from(*block),
             bytes: chunk(self.content, k * Disk::BLOCK),
         })
     }

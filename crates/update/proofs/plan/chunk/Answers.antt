@@ -1,15 +1,11 @@
-use Rattle.std.proofs.Common.{◌≡◌, ◌+◌, ◌-◌, ◌++◌, take, drop, replicate, ap, ◌∙◌, arith}
-use Rattle.update.proofs.PlanWrites.{chunk_is, chunk_none}
+use Rattle.std.proofs.Common.{◌≡◌, ◌-◌, length, take, drop, ap, ◌∙◌, arith, length-drop}
+use Rattle.std.proofs.lemmas.List.{drop_min, take_all}
+use Rattle.update.specs.Putting.{padded}
 use Rattle.update.proofs.plan.chunk.Goals as goal
 
-pub returns-then-at-content : goal.returns-then-at-content
-returns-then-at-content c =
+pub returns : goal.returns
+returns c =
     let xs = c.args.content.now in
-    let at = c.args.at in
-    let n = c.min-n.result in
-    let all : n - 0 ≡ n = omega arith in
-    let size : (at + n) - at ≡ n = omega arith in
-    (λ j. (c.copy_from_slice.ensures.after ∙ ap (λ k. take k (drop at xs)) size) j ++ drop (all j) (replicate 64 0)) ∙ chunk_is xs at n c.min-n.ensures
-
-pub returns-else-at-content : goal.returns-else-at-content
-returns-else-at-content c = chunk_none c.args.content.now c.args.at c.if-at-content.false
+    let from = c.min.result in
+    let rest : take (length xs - from) (drop from xs) ≡ drop from xs = take_all (length xs - from) (drop from xs) (omega (arith, length-drop from xs)) in
+    c.padded.ensures ∙ ap (padded 64) (rest ∙ ap (λ n. drop n xs) c.min.ensures ∙ drop_min c.args.at xs)

@@ -1,9 +1,10 @@
-use Rattle.std.proofs.Common.{Some, sym, ap, ◌∙◌, arith}
+use Rattle.std.proofs.Common.{◌≡◌, [], ◌++◌, Some, sym, ap, ◌∙◌, arith}
 use Rattle.std.specs.Option.{option_to_list}
 use Rattle.std.proofs.lemmas.Bool.{cond-true, cond-false, lt-ltb, le-ltb}
 use Rattle.layout.specs.Files.{find, found}
 use Rattle.fsck.proofs.Contents.{sound_long}
 use Rattle.fsck.proofs.Deciding.{sound_to_rules}
+use Rattle.update.specs.Listed.{listed}
 use Rattle.update.specs.Writes.{entry_write}
 use Rattle.update.specs.Putting.{data_writes}
 use Rattle.update.specs.Plans.{plan_writes}
@@ -25,7 +26,8 @@ unfolding plan_writes take_writes data_writes
 returns c =
     let d = c.args.disk.now in
     let x = c.args.name.now.bytes in
-    elim c.match-find.branch [
+    let none : data_writes (listed c.new-2.result) c.args.nothing.now ≡ [] = ap (λ bs. data_writes bs c.args.nothing.now) c.new-2.ensures in
+    ap (λ ws. ws ++ option_to_list c.match-find.last) none ∙ elim c.match-find.branch [
       | in-Some w ↦
           let place = found_place d x w.in-Some.i (w.in-Some.ensures.value ∙ (λ j. found (c.new.ensures j).now x)) in
           ap option_to_list w.last-is ∙ ap (λ v. option_to_list (Some v)) (w.write_without.ensures ∙ ap (λ i. entry_write d i (unused_bytes d i)) place.0) ∙ sym (cond-true _ _ _ (lt-ltb (find d x) 16 place.1))

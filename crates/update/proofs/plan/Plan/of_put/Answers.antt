@@ -1,15 +1,14 @@
-use Rattle.std.proofs.Common.{◌≡◌, ℕ, ◌≤◌, true, cond, ltb, leb, List, [], ◌∷◌, ◌++◌, length, take, Some, None, sym, ap, ◌∙◌, subst, arith, length-take}
-use Rattle.std.proofs.lemmas.List.{take_all}
-use Rattle.std.proofs.lemmas.Bool.{and_left, and_right, and_from, ltb-true, leb-true}
-use Rattle.layout.specs.Entries.{encoded, needs}
+use Rattle.std.proofs.Common.{◌≡◌, ℕ, true, cond, ltb, leb, List, [], ◌∷◌, ◌++◌, length, take, Some, None, sym, ap, ◌∙◌, subst, arith}
+use Rattle.std.proofs.lemmas.Bool.{and_left, and_right, and_from, ltb-true, le-leb, lt-leb}
+use Rattle.layout.specs.Entries.{encoded}
 use Rattle.layout.proofs.Finding.{some_from_cond, none_from_cond}
 use Rattle.fsck.specs.Blocks.{free}
 use Rattle.fsck.proofs.Deciding.{sound_to_rules}
 use Rattle.fsck.proofs.Contents.{sound_long}
+use Rattle.update.specs.Listed.{listed}
 use Rattle.update.specs.Writes.{entry_write}
 use Rattle.update.specs.Putting.{padded, data_writes, chosen, place_for, new_entry, put_writes, room_for}
 use Rattle.update.specs.Plans.{plan_writes, PutPlan}
-use Rattle.update.proofs.NewFile.{take-padded}
 use Rattle.update.proofs.plan.Plan.of_put.Goals as goal
 
 pub returns-in_err-i : goal.returns-in_err-i
@@ -28,7 +27,7 @@ unfolding room_for
 returns-in_err-blocks c =
     let d = c.args.disk.now in
     let x = c.args.name.bytes in
-    let full = none_from_cond (leb c.blocks_needed-needed.result (length (free d))) _ c.in_err-blocks.ensures in
+    let full = lt-leb c.blocks_needed-needed.result (length (free d)) c.in_err-blocks.ensures in
     subst (PutPlan d x c.args.content.now) (sym c.from_residual-in_err-blocks.ensures)
     (and_right (ltb (place_for d x) 16) _ (ap (λ n. leb n (length (free d))) (sym c.blocks_needed-needed.ensures.value) ∙ full))
 
@@ -44,13 +43,6 @@ entry_write-last-requires c =
     let lt = ltb-true (place_for d x) 16 place.0 in
     (omega (arith, sound_long d 16 (sound_to_rules d c.requires.0)), omega (arith, place.1))
 
--- the numbers of the blocks, out of the array that holds them
-numbers : (d c : List ℕ) (n : ℕ) → n ≡ needs (length c) → n ≤ 16 → n ≤ length (free d) → take n (padded 16 (take n (free d))) ≡ chosen d c
-unfolding chosen
-numbers d c n is few enough =
-    let long : length (take n (free d)) ≡ n = simp length-take (omega arith) in
-    take-padded 16 n (take n (free d)) few (omega arith) ∙ take_all n (take n (free d)) (omega arith) ∙ ap (λ k. take k (free d)) is
-
 pub returns : goal.returns
 unfolding room_for plan_writes put_writes new_entry chosen
 returns c =
@@ -61,12 +53,10 @@ returns c =
     let i = c.in_ok-i.i in
     let count = c.blocks_needed-needed.ensures.value in
     let place = here d x i c.in_ok-i.ensures in
-    let got = some_from_cond (leb n (length (free d))) c.in_ok-blocks.blocks (padded 16 (take n (free d))) c.in_ok-blocks.ensures in
-    let few : n ≤ 16 = c.blocks_needed-needed.ensures.fewest.least 16 (omega (arith, c.requires.1)) in
-    let blocks : c.in_ok-blocks.blocks ≡ padded 16 (chosen d xs) = got.1 ∙ ap (λ k. padded 16 (take k (free d))) count in
-    let data_first : take n c.in_ok-blocks.blocks ≡ chosen d xs = ap (take n) got.1 ∙ numbers d xs n count few (leb-true n (length (free d)) got.0) in
-    let entry : c.encode.result ≡ encoded (new_entry x xs (chosen d xs)) = c.encode.ensures.bytes ∙ (λ j. encoded (record { used = true; name = c.args.name; len = length xs; blocks = blocks j; unread = 0 ∷ (0 ∷ []) })) in
+    let blocks : listed c.in_ok-blocks.blocks ≡ chosen d xs = c.in_ok-blocks.ensures.1 ∙ ap (λ k. take k (free d)) count in
+    let numbers = c.in_entry.ensures ∙ ap (padded 16) blocks in
+    let entry : c.encode.result ≡ encoded (new_entry x xs (chosen d xs)) = c.encode.ensures.bytes ∙ (λ j. encoded (record { used = true; name = c.args.name; len = length xs; blocks = numbers j; unread = 0 ∷ (0 ∷ []) })) in
     let last = c.entry_write-last.ensures ∙ (λ j. entry_write d (place.1 j) (entry j)) in (
-      and_from _ _ place.0 (ap (λ k. leb k (length (free d))) (sym count) ∙ got.0),
-      (λ j. data_writes (data_first j) xs ++ (last j ∷ [])),
+      and_from _ _ place.0 (ap (λ k. leb k (length (free d))) (sym count) ∙ le-leb n (length (free d)) c.in_ok-blocks.ensures.0),
+      (λ j. data_writes (blocks j) xs ++ (last j ∷ [])),
     )
