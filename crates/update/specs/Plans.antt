@@ -1,8 +1,9 @@
 -- The writes of a plan. Assumes nothing.
-use Rattle.std.specs.Prelude.{◌≡◌, ℕ, zero, suc, ◌+◌, ◌*◌, ◌≤◌, true, false, List, [], ◌∷◌, ◌++◌, length, Some, None, Ok, Err, Option, Result}
+use Rattle.std.specs.Prelude.{◌≡◌, ℕ, zero, suc, ◌+◌, ◌*◌, ◌≤◌, true, false, List, [], ◌∷◌, ◌++◌, length, drop, Some, None, Ok, Err, Option, Result}
 use Rattle.std.specs.Option.{option_to_list}
 use Rattle.update.specs.declared.answer.Done.{Done}
 use Rattle.update.specs.declared.plan.Plan.{Plan}
+use Rattle.update.specs.declared.writes.Writes.{Writes}
 use Rattle.update.specs.Listed.{listed}
 use Rattle.update.specs.Writes.{Write}
 use Rattle.update.specs.Putting.{data_writes, put_writes, room_for}
@@ -19,6 +20,10 @@ abbrev pub nth_write : List Write → ℕ → Option Write
 nth_write [] k = None
 nth_write (w ∷ ws) zero = Some w
 nth_write (w ∷ ws) (suc k) = nth_write ws k
+
+-- of a plan's writes, those that are left
+abbrev pub writes_left : Writes → List Write
+writes_left s = drop s.given (plan_writes s.plan.now)
 
 -- each write is into a block of the disk
 abbrev pub OnDisk : List ℕ → List Write → Type 0

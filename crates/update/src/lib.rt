@@ -13,3 +13,4 @@ pub mod request;
 #[cfg(test)]
 mod tests;
 pub mod write;
+pub mod writes;

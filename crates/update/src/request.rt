@@ -1,5 +1,5 @@
 // Requests as values, performed one after the other.
-ghost use Rattle.std.specs.Prelude.{◌≡◌, ◌≤◌, map, length, if◌then◌else◌, nat_le};
+ghost use Rattle.std.specs.Prelude.{◌≡◌, map, length, if◌then◌else◌, nat_le};
 ghost use Rattle.update.specs.declared.answer.Done.TheVariants.{Finished, Cut};
 ghost use Rattle.update.specs.Writes.{after_writes};
 ghost use Rattle.update.specs.Asking.{asked, refusal, roomy};
@@ -41,18 +41,15 @@ impl Request<'_> {
 
 // Makes the writes of the plan while power lasts.
 fn carry_out(disk: &mut [u8], plan: &Plan<'_>, lasts: u64) -> Done
-    requires few { length (plan_writes plan.now) ≤ 17 }
-    requires fit { OnDisk disk.old (plan_writes plan.now) }
+    requires { OnDisk disk.old (plan_writes plan.now) }
     ensures disk { disk.new ≡ after_writes lasts disk.old (plan_writes plan.now) }
     ensures answer { result ≡ (if nat_le (length (plan_writes plan.now)) lasts then Finished else Cut) }
 {
     let mut power = lasts;
-    let mut k = 0;
-    while let Some(write) = plan.write(k) {
+    for write in plan.writes() {
         if !write_powered(disk, &write, &mut power) {
             return Done::Cut;
         }
-        k += 1;
     }
     Done::Finished
 }

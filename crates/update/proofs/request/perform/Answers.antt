@@ -1,4 +1,4 @@
-use Rattle.std.proofs.Common.{◌≤◌, cond, leb, length, sym, ◌∙◌, subst}
+use Rattle.std.proofs.Common.{cond, leb, length, sym, ◌∙◌, subst}
 use Rattle.update.specs.declared.answer.Done.TheVariants.{Finished, Cut}
 use Rattle.update.specs.Writes.{after_writes}
 use Rattle.update.specs.Asking.{asked, refusal, roomy}
@@ -15,7 +15,7 @@ carry_out-requires c =
     let a = asked c.args.request in
     let told = c.in-Ok.ensures in
     let in' = accepted d a told.0 in
-    record { few = subst (λ ws. length ws ≤ 17) (sym told.1) (few_writes d a in'.may_be); fit = subst (OnDisk d) (sym told.1) (on_disk d a in') }
+    subst (OnDisk d) (sym told.1) (on_disk d a in')
 
 pub returns-in-Ok : goal.returns-in-Ok
 returns-in-Ok c =
