@@ -1,5 +1,5 @@
 // A write of one block, while power lasts.
-ghost use Rattle.std.specs.Prelude.{◌≡◌, ◌+◌, ◌-◌, ◌*◌, ◌<◌, ◌≤◌, length, if◌then◌else◌, nat_lt};
+ghost use Rattle.std.specs.Prelude.{◌≡◌, ◌+◌, ◌-◌, ◌*◌, ◌<◌, ◌≤◌, ◌↔◌, length, if◌then◌else◌, nat_lt, IsOk, OnOk, OnErr};
 ghost use Rattle.fsck.specs.Blocks.{size};
 ghost use Rattle.update.specs.Writes.{after_write, entry_write};
 
@@ -12,13 +12,9 @@ pub struct Write {
     pub bytes: [u8; Disk::BLOCK],
 }
 
-// Fills a part of the disk with these bytes.
-fn fill(part: &mut [u8], bytes: &[u8; Disk::BLOCK])
-    requires { length part.old ≡ 64 }
-    ensures { part.new ≡ bytes.now }
-{
-    part.copy_from_slice(bytes);
-}
+// The block of a write isn't on the disk.
+#[derive(Debug, Clone, Copy, PartialEq, Eq)]
+pub struct OffDisk;
 
 // Makes the write: its bytes are in its block, all of them, and nothing else is changed.
 pub(crate) fn write_block(disk: &mut [u8], write: &Write)
@@ -26,24 +22,27 @@ pub(crate) fn write_block(disk: &mut [u8], write: &Write)
     ensures { disk.new ≡ after_write disk.old write.now }
 {
     let at = write.to * Disk::BLOCK;
-    fill(&mut disk[at..at + Disk::BLOCK], &write.bytes);
+    disk[at..at + Disk::BLOCK].copy_from_slice(&write.bytes);
 }
 
 impl Write {
-    // Makes the write on a disk in memory; false, and nothing changed, where its block isn't on the disk.
-    pub fn make(&self, disk: &mut [u8]) -> bool
-        ensures made { result ≡ nat_lt self.now.to (size disk.old) }
-        ensures disk { disk.new ≡ (if result then after_write disk.old self.now else disk.old) }
+    // Makes the write on a disk in memory. Nothing is changed where its block isn't on the disk.
+    #[tactic(auto, unfolding(fsck::specs::Blocks::size))]
+    pub fn make(&self, disk: &mut [u8]) -> Result<(), OffDisk>
+        ensures made { IsOk result ↔ (self.now.to < size disk.old) }
+        ensures disk { OnOk result (disk.new ≡ after_write disk.old self.now) }
+        ensures same { OnErr result (disk.new ≡ disk.old) }
     {
         if self.to >= disk.len() / Disk::BLOCK {
-            return false;
+            return Err(OffDisk);
         }
         write_block(disk, self);
-        true
+        Ok(())
     }
 }
 
-// The same while power lasts, which then lasts for one write less; false, and nothing written, once it has failed.
+// The same while power lasts, which then lasts for one write less. Says whether power lasted: nothing is written once it has failed.
+// Power is a number that falls from write to write, so it is lent.
 pub(crate) fn write_powered(disk: &mut [u8], write: &Write, power: &mut u64) -> bool
     requires { 64 * write.now.to + 64 ≤ length disk.old }
     ensures made { result ≡ nat_lt 0 power.old }
