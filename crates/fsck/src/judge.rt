@@ -1,13 +1,16 @@
 // Whether a disk is sound, and the first entry at which it isn't.
 ghost use Rattle.std.specs.Prelude.{◌≡◌, ℕ, suc, ◌<◌, true, ◌||◌, Decides, ◌==◌};
+ghost use Rattle.std.specs.Option.{option_map};
 ghost use Rattle.layout.specs.Entries.{blocks_of};
 ghost use Rattle.layout.specs.Files.{has_entries, has_entry, held, find};
 ghost use Rattle.fsck.specs.Sets.{member};
 ghost use Rattle.fsck.specs.Blocks.{blocks_to, has, size};
 ghost use Rattle.fsck.specs.Sound.{size_ok, block_ok, blocks_ok, entry_ok, sound, first_fault};
+ghost use Rattle.fsck.specs.Faults.{place, fault_of_place};
 ghost use Rattle.fsck.specs.Rules.{Sound, Judged, TwinsFound};
 
 use crate::block_set::BlockSet;
+use crate::fault::Fault;
 use layout::disk::Disk;
 use layout::entry::Entry;
 
@@ -98,20 +101,21 @@ fn judge_entry(disk: &[u8], i: usize, taken: &mut BlockSet) -> bool
     take_file(&entry, disk.len() / Disk::BLOCK, taken)
 }
 
-// Nothing for a sound disk; else the first entry at which it isn't, judged against those before it, or sixteen where the size is wrong.
-pub fn first_fault(disk: &[u8]) -> Option<usize>
-    ensures value { result ≡ first_fault disk.now }
-    ensures judged { Judged disk.now result }
+// Nothing for a sound disk; else its size, where that is wrong, or the first entry at which it isn't sound, judged against those before it.
+pub fn first_fault(disk: &[u8]) -> Option<Fault>
+    ensures value { result ≡ option_map fault_of_place (first_fault disk.now) }
+    ensures places { option_map place result ≡ first_fault disk.now }
+    ensures judged { Judged disk.now (option_map place result) }
     ensures agrees { Decides (sound disk.now) (Sound disk.now) }
     ensures twins { TwinsFound disk.now }
 {
     if !has_size(disk) {
-        return Some(Disk::ENTRIES);
+        return Some(Fault::Size);
     }
     let mut taken = BlockSet::new();
     for i in 0..Disk::ENTRIES {
         if !judge_entry(disk, i, &mut taken) {
-            return Some(i);
+            return Some(Fault::Entry(i));
         }
     }
     None

@@ -2,7 +2,9 @@
 #![tactic(auto)]
 
 pub mod block_set;
+pub mod fault;
 pub mod judge;
+pub mod sound_disk;
 #[cfg(test)]
 mod tests;
 pub mod usage;

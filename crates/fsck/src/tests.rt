@@ -1,4 +1,5 @@
 // Disks that are sound, and disks with one fault each.
+use crate::fault::Fault;
 use crate::judge::first_fault;
 use layout::disk::Disk;
 use layout::entry::Entry;
@@ -32,14 +33,19 @@ fn disk_of(heap: Global, entries: &[Entry]) -> Result<Vec<u8>, AllocError> {
     Ok(bytes)
 }
 
+// The place of the first fault.
+fn place_of(disk: &[u8]) -> Option<usize> {
+    first_fault(disk).map(Fault::place)
+}
+
 fn fault_of(heap: Global, entries: &[Entry]) -> Result<Option<usize>, AllocError> {
-    Ok(first_fault(disk_of(heap, entries)?.as_slice()))
+    Ok(place_of(disk_of(heap, entries)?.as_slice()))
 }
 
 #[test]
 fn sizes(rt: HostRuntime) -> Result<(), Fail> {
     let mut zeros = Vec::new(rt.alloc());
-    assert_eq!(rt; first_fault(zeros.as_slice()), Some(16));
+    assert_eq!(rt; place_of(zeros.as_slice()), Some(16));
     for (len, fault) in [
         (1, Some(16)),
         (8 * Disk::BLOCK, Some(16)),
@@ -50,7 +56,7 @@ fn sizes(rt: HostRuntime) -> Result<(), Fail> {
         (251 * Disk::BLOCK, Some(16)),
     ] {
         zeros.resize(len, 0)?;
-        assert_eq!(rt; first_fault(zeros.as_slice()), fault);
+        assert_eq!(rt; place_of(zeros.as_slice()), fault);
     }
     Ok(())
 }
@@ -61,7 +67,7 @@ fn first_byte_of_an_entry(rt: HostRuntime) -> Result<(), Fail> {
     disk.resize(3 * Disk::ENTRY, 0)?;
     disk.push(2)?;
     disk.resize(12 * Disk::BLOCK, 0)?;
-    assert_eq!(rt; first_fault(disk.as_slice()), Some(3));
+    assert_eq!(rt; place_of(disk.as_slice()), Some(3));
     Ok(())
 }
 
@@ -71,11 +77,11 @@ fn lengths(rt: HostRuntime) -> Result<(), Fail> {
     longest.blocks = [8, 9, 10, 11, 12, 13, 14, 15, 16, 17, 18, 19, 20, 21, 22, 23];
     let mut disk = longest.encode().to_vec(rt.alloc())?;
     disk.resize(24 * Disk::BLOCK, 0)?;
-    assert_eq!(rt; first_fault(disk.as_slice()), None);
+    assert_eq!(rt; place_of(disk.as_slice()), None);
     longest.len = 1025;
     let mut disk = longest.encode().to_vec(rt.alloc())?;
     disk.resize(24 * Disk::BLOCK, 0)?;
-    assert_eq!(rt; first_fault(disk.as_slice()), Some(0));
+    assert_eq!(rt; place_of(disk.as_slice()), Some(0));
     Ok(())
 }
 

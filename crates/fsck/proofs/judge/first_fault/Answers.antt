@@ -1,7 +1,9 @@
-use Rattle.std.proofs.Common.{◌≡◌, suc, ◌+◌, ◌≤◌, true, length, sym, ap, ◌∙◌, subst, add-one, arith}
-use Rattle.std.proofs.lemmas.Bool.{and_from, le-leb, lt-ltb}
+use Rattle.std.proofs.Common.{◌≡◌, suc, ◌+◌, ◌≤◌, true, length, Some, sym, ap, ◌∙◌, subst, add-one, arith}
+use Rattle.std.specs.Option.{option_map}
+use Rattle.std.proofs.lemmas.Bool.{cond-true, and_from, le-leb, lt-ltb}
 use Rattle.fsck.specs.Blocks.{blocks_to, has}
 use Rattle.fsck.specs.Sound.{sound, sound_to}
+use Rattle.fsck.specs.Faults.{fault_of_place}
 use Rattle.fsck.proofs.Deciding.{sound_decides}
 use Rattle.fsck.proofs.Judging.{sound_to_none, sound_to_more, fault_size, fault_at, fault_none, twins_found}
 use Rattle.fsck.proofs.judge.first_fault.Goals as goal
@@ -11,7 +13,7 @@ unfolding sound
 returns-then-not-has_size c =
     let d = c.args.disk.now in
     let r = fault_size d (sym c.has_size.ensures ∙ c.if-not-has_size.true) in
-    record { value = r.0; judged = r.1; agrees = sound_decides d 16 (omega arith); twins = twins_found d }
+    record { value = ap (option_map fault_of_place) r.0; places = r.0; judged = r.1; agrees = sound_decides d 16 (omega arith); twins = twins_found d }
 
 pub loop-i-init : goal.loop-i-init
 unfolding blocks_to
@@ -30,7 +32,7 @@ unfolding sound
 returns-then-not-judge_entry c =
     let d = c.args.disk.now in
     let r = fault_at d c.loop-i.i c.loop-i-test.true c.loop-i.invariant.0 (sym c.judge_entry.ensures.value ∙ c.if-not-judge_entry.true) in
-    record { value = r.0; judged = r.1; agrees = sound_decides d 16 (omega arith); twins = twins_found d }
+    record { value = ap Some (sym (cond-true _ _ _ (lt-ltb c.loop-i.i 16 c.loop-i-test.true))) ∙ ap (option_map fault_of_place) r.0; places = r.0; judged = r.1; agrees = sound_decides d 16 (omega arith); twins = twins_found d }
 
 pub loop-i-preserved : goal.loop-i-preserved
 loop-i-preserved c =
@@ -48,4 +50,4 @@ returns c =
     let d = c.args.disk.now in
     let all : c.loop-i.i ≡ 16 = omega arith in
     let r = fault_none d (subst (λ n. sound_to d n ≡ true) all c.loop-i.invariant.0) in
-    record { value = r.0; judged = r.1; agrees = sound_decides d 16 (omega arith); twins = twins_found d }
+    record { value = ap (option_map fault_of_place) r.0; places = r.0; judged = r.1; agrees = sound_decides d 16 (omega arith); twins = twins_found d }

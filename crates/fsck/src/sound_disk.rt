@@ -1,0 +1,49 @@
+// A disk that was found sound.
+ghost use Rattle.std.specs.Prelude.{◌≡◌, true, Some, MatchResult};
+ghost use Rattle.fsck.specs.Sound.{sound, first_fault};
+ghost use Rattle.fsck.specs.Faults.{fault_of_place};
+ghost use Rattle.fsck.specs.Blocks.{size};
+ghost use Rattle.std.specs.Option.{option_map};
+
+use crate::fault::Fault;
+use crate::judge::first_fault;
+use layout::disk::Disk;
+
+// The bytes of a sound disk. Whoever has one need not judge it again.
+#[derive(Clone, Copy)]
+pub struct SoundDisk<'a> {
+    bytes: &'a [u8],
+    ghost sound: { sound bytes.now ≡ true },
+}
+
+impl<'a> SoundDisk<'a> {
+    // The disk, if it is sound; else its first fault.
+    pub fn check(bytes: &'a [u8]) -> Result<SoundDisk<'a>, Fault>
+        ensures { MatchResult result (λ disk. (sound bytes.now ≡ true) × (disk.bytes ≡ bytes.entry)) (λ fault. option_map fault_of_place (first_fault bytes.now) ≡ Some fault) }
+    {
+        match first_fault(bytes) {
+            None => Ok(SoundDisk { bytes }),
+            Some(fault) => Err(fault),
+        }
+    }
+
+    pub fn bytes(&self) -> &'a [u8]
+        ensures { result ≡ self.now.bytes }
+    {
+        self.bytes
+    }
+
+    // The disk as the old machine reads it.
+    pub fn view(&self) -> Disk<'a>
+        ensures { result.bytes ≡ self.now.bytes }
+    {
+        Disk::new(self.bytes)
+    }
+
+    // How many blocks the disk has.
+    pub fn blocks(&self) -> usize
+        ensures { result ≡ size self.now.bytes.now }
+    {
+        self.bytes.len() / Disk::BLOCK
+    }
+}
