@@ -1,14 +1,14 @@
 // Where a new file goes: the blocks for its bytes, and the place of its entry.
 ghost use Rattle.std.specs.Prelude.{◌≡◌, ◌<◌, ◌≤◌, not, length, take, if◌then◌else◌, Some, None, MatchOption, position, nat_lt};
+ghost use Rattle.layout.specs.Files.{entries};
 ghost use Rattle.fsck.specs.Blocks.{free};
 ghost use Rattle.update.specs.Listed.{listed};
-ghost use Rattle.update.specs.Putting.{unused_from, place_for};
+ghost use Rattle.update.specs.Putting.{place_for};
 
 use crate::block_list::BlockList;
 use fsck::sound_disk::SoundDisk;
 use fsck::usage::blocks_in_use;
 use layout::disk::Disk;
-use layout::entry::Entry;
 use layout::name::Name;
 
 // The lowest free blocks, as many as are needed; none where fewer are free.
@@ -29,19 +29,11 @@ pub(crate) fn choose_blocks(disk: SoundDisk<'_>, needed: usize) -> Option<BlockL
     Some(chosen)
 }
 
-// The place of the first of these entries that is not in use.
-fn position_unused(entries: &[Entry]) -> Option<usize>
-    ensures { result ≡ position (λ e. not e.used) entries.now }
-{
-    entries.iter().position(|entry| !entry.used)
-}
-
-// The place of the disk's first entry that is not in use; none where all are.
+// The place of the first entry that is not in use; none where all are.
 fn first_unused(disk: SoundDisk<'_>) -> Option<usize>
-    ensures { result ≡ (if nat_lt (unused_from disk.entry.bytes.now 0 16) 16 then Some (unused_from disk.entry.bytes.now 0 16) else None) }
+    ensures { result ≡ position (λ e. not e.used) (entries disk.entry.bytes.now) }
 {
-    let entries = disk.view().entries()?;
-    position_unused(&entries)
+    disk.entries().iter().position(|entry| !entry.used)
 }
 
 // The place of the entry for a file of this name: the one that has it, or else the first that is not in use; none where all are.
