@@ -1,5 +1,7 @@
 -- What is planned of a request, and what comes of it once it is begun. Assumes nothing.
-use Rattle.std.proofs.Common.{◌≡◌, ℕ, zero, suc, ◌+◌, ◌*◌, ◌≤◌, Bool, true, false, cond, ◌&&◌, eqb, leb, List, [], ◌∷◌, length, Some, None, Ok, Err, sym, refl, ap, ◌∙◌, subst, ⊎_elim, arith}
+use Rattle.std.proofs.Common.{◌≡◌, ℕ, zero, suc, ◌+◌, ◌*◌, ◌≤◌, Bool, true, false, cond, ◌&&◌, eqb, leb, List, [], ◌∷◌, length, Some, None, Ok, Err, Option, Result, sym, refl, ap, ◌∙◌, subst, ⊎_elim, arith}
+use Rattle.std.specs.Option.{ok_or}
+use Rattle.std.specs.Result.{IsErrAnd}
 use Rattle.std.proofs.lemmas.Bool.{cases_lt, cond-true, and_from, and_parts, and_left, and_right, eqb-true, eq-eqb}
 use Rattle.layout.specs.Files.{find}
 use Rattle.fsck.specs.Sound.{sound}
@@ -15,7 +17,7 @@ use Rattle.update.specs.Writes.{Write, after_writes, entry_write}
 use Rattle.update.specs.Putting.{room_for}
 use Rattle.update.specs.Requests.{Asked, put, away, lasts, writes, may, step, done}
 use Rattle.update.specs.Asking.{refusal, roomy, begun}
-use Rattle.update.specs.Plans.{plan_writes, nth_write, OnDisk, PlanSays}
+use Rattle.update.specs.Plans.{plan_writes, nth_write, OnDisk, PutPlan, PlanSays}
 use Rattle.update.specs.Promise.{FewWrites}
 use Rattle.update.specs.Said.{Says}
 use Rattle.update.proofs.Admission.{refused_says}
@@ -36,13 +38,24 @@ plan_refused d a q why = (
   subst (λ n. Says n d a (roomy d a) (Refused q) d) (sym why) (refused_says q d a (roomy d a)),
 )
 
-pub plan_full : (d : List ℕ) (a : Asked) → refusal d a ≡ 0 → roomy d a ≡ false → PlanSays d a (Err Full)
+plan_full : (d : List ℕ) (a : Asked) → refusal d a ≡ 0 → roomy d a ≡ false → PlanSays d a (Err Full)
 plan_full d a fine full =
     let left : Says 0 d a false Full d = (refl, refl) in
     (and_right (eqb (refusal d a) 0) _ full, subst (λ n. Says n d a (roomy d a) Full d) (sym fine) (subst (λ r. Says 0 d a r Full d) (sym full) left))
 
 pub plan_made : (d : List ℕ) (a : Asked) (p : Plan) → refusal d a ≡ 0 → roomy d a ≡ true → plan_writes p ≡ writes d a → PlanSays d a (Ok p)
 plan_made d a p fine room ws = (and_from _ _ (eq-eqb (refusal d a) 0 fine) room, ws)
+
+-- a refusal that is passed on
+pub plan_passed : (d : List ℕ) (a : Asked) (r : Result Plan Done) (q : Refusal) → IsErrAnd r (λ e. e ≡ Refused q) → refusal d a ≡ number q → PlanSays d a r
+plan_passed d a (Ok p) q is why = absurd is
+plan_passed d a (Err e) q is why = subst (λ e. PlanSays d a (Err e)) (sym is) (plan_refused d a q why)
+
+-- a put that isn't refused, with a plan or with no room
+pub plan_put : (d x c : List ℕ) (n : ℕ) (o : Option Plan) → put_refusal d x c ≡ 0 → PutPlan d x c o → PlanSays d (put x c n) (ok_or o Full)
+unfolding writes
+plan_put d x c n None fine full = plan_full d (put x c n) fine full
+plan_put d x c n (Some p) fine made = plan_made d (put x c n) p fine made.0 made.1
 
 -- a request that is begun
 pub record Accepted (d : List ℕ) (a : Asked) : Type 0 where

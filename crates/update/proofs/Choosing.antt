@@ -1,14 +1,14 @@
 -- The lowest free blocks, gathered one by one, and the first entry that is not in use. Assumes nothing.
-use Rattle.std.proofs.Common.{◌≡◌, ℕ, zero, suc, ◌+◌, ◌-◌, ◌<◌, Bool, true, false, not, cond, ltb, List, ◌∷◌, Some, None, sym, refl, ap, ◌∙◌, subst, ⊎_elim, arith}
-use Rattle.std.specs.List.{filter, range_with_len}
-use Rattle.std.proofs.lemmas.Bool.{cond-true, cond-false, cases_Bool, both_ways, and_parts, lt-ltb, le-ltb, ltb-true}
+use Rattle.std.proofs.Common.{◌≡◌, ℕ, zero, suc, ◌+◌, Bool, true, false, not, ◌&&◌, cond, ltb, List, ◌∷◌, length, map, position, Some, None, sym, refl, ap, ◌∙◌, arith}
+use Rattle.std.specs.List.{filter, range_with_len, position_or_len}
+use Rattle.std.proofs.lemmas.Bool.{cond-true, cond-false, le-leb}
 use Rattle.layout.specs.declared.entry.Entry.{Entry}
-use Rattle.layout.specs.Files.{has_entry, has_entries, entry_at, entry_if, find, found}
-use Rattle.layout.proofs.Finding.{some_from_cond, none_from_cond, entry_if_some}
+use Rattle.layout.specs.Files.{has_entries, entry_at, entries, find, found}
+use Rattle.layout.proofs.Finding.{some_from_cond, none_from_cond}
 use Rattle.fsck.specs.Blocks.{in_use, free_from}
 use Rattle.fsck.specs.Sound.{sound}
 use Rattle.fsck.proofs.Deciding.{sound_to_rules}
-use Rattle.fsck.proofs.Contents.{sound_entry}
+use Rattle.fsck.proofs.Contents.{sound_long}
 use Rattle.update.specs.Putting.{unused_from, place_for}
 
 -- the blocks that are in no set which has just those in use
@@ -24,56 +24,41 @@ filter-free_from d test b (suc n) h =
     turned true = refl
     turned false = refl
 
--- the first unused entry, at one in use and at one that is not
-pub unused_from_used : (d : List ℕ) (i : ℕ) → i < 16 → (entry_at d i).used ≡ true → unused_from d i (16 - i) ≡ unused_from d (i + 1) (16 - (i + 1))
+-- the place of the first entry that is not in use, in the list of them
+unused_step : (used : Bool) (i rest more : ℕ) → rest ≡ suc i + more → cond used rest i ≡ i + cond (not (not used)) (1 + more) 0
+unused_step true i rest more is = is ∙ omega arith
+unused_step false i rest more is = omega arith
+
+unused_from-position : (d : List ℕ) (i n : ℕ) → unused_from d i n ≡ i + position_or_len (λ (e : Entry). not e.used) (map (entry_at d) (range_with_len i n))
 unfolding unused_from
-unused_from_used d i lt used =
-    let left : 16 - i ≡ suc (15 - i) = omega arith in
-    let next : suc i ≡ i + 1 = omega arith in
-    let rest : 15 - i ≡ 16 - (i + 1) = omega arith in
-    ap (unused_from d i) left ∙ cond-true (entry_at d i).used (unused_from d (suc i) (15 - i)) i used ∙ (λ j. unused_from d (next j) (rest j))
+unused_from-position d i zero = omega arith
+unused_from-position d i (suc n) =
+    let next : i + 1 ≡ suc i = omega arith in
+    let rest = unused_from-position d (suc i) n ∙ ap (λ k. suc i + position_or_len (λ (e : Entry). not e.used) (map (entry_at d) (range_with_len k n))) (sym next) in
+    unused_step (entry_at d i).used i _ _ rest
 
-pub unused_from_here : (d : List ℕ) (i : ℕ) → i < 16 → (entry_at d i).used ≡ false → unused_from d i (16 - i) ≡ i
-unfolding unused_from
-unused_from_here d i lt unused =
-    let left : 16 - i ≡ suc (15 - i) = omega arith in
-    ap (unused_from d i) left ∙ cond-false (entry_at d i).used (unused_from d (suc i) (15 - i)) i unused
+pub position-unused : (d : List ℕ) → position (λ (e : Entry). not e.used) (entries d) ≡ cond (ltb (unused_from d 0 16) 16) (Some (unused_from d 0 16)) None
+unfolding entries
+position-unused d =
+    let same : position_or_len (λ (e : Entry). not e.used) (map (entry_at d) (range_with_len 0 16)) ≡ unused_from d 0 16 = omega (arith, unused_from-position d 0 16) in
+    ap (λ n. cond (ltb n 16) (Some n) None) same
 
-pub unused_from_end : (d : List ℕ) (i : ℕ) → i ≡ 16 → unused_from d i (16 - i) ≡ 16
-unfolding unused_from
-unused_from_end d i end = ap (λ k. unused_from d k (16 - k)) end
+-- a sound disk has its entries
+pub sound_entries : (d : List ℕ) → sound d ≡ true → has_entries d ≡ true
+sound_entries d ok = le-leb 512 (length d) (omega (arith, sound_long d 16 (sound_to_rules d ok)))
 
--- a place below sixteen, or none
-pub place_some : (p i : ℕ) → p ≡ i → i < 16 → Some i ≡ cond (ltb p 16) (Some p) None
-place_some p i same lt = sym (cond-true _ (Some p) None (lt-ltb p 16 (omega arith)) ∙ ap Some same)
+-- the place of a file: the one that was found, or else the first entry that is not in use
+module _ (d x : List ℕ) (ok : sound d ≡ true) where
+  found_sound : found d x ≡ cond (ltb (find d x) 16) (Some (find d x)) None
+  found_sound = ap (λ b. cond (b && ltb (find d x) 16) (Some (find d x)) None) (sound_entries d ok)
 
-pub place_none : (p : ℕ) → p ≡ 16 → None ≡ cond (ltb p 16) (Some p) None
-place_none p same = sym (cond-false _ (Some p) None (le-ltb p 16 (omega arith)))
-
--- a sound disk that was seen through a view
-module _ (d v : List ℕ) (ok : sound d ≡ true) (same : v ≡ d) where
-  -- each of its sixteen entries is there
-  pub entry_there : (i : ℕ) → i < 16 → None ≡ entry_if v i → ⊥
-  entry_there i lt is = both_ways _ (none_from_cond (has_entry d i) (entry_at d i) (is ∙ ap (λ l. entry_if l i) same)) (sound_entry d 16 i (sound_to_rules d ok) lt)
-
-  pub entry_seen : (i : ℕ) (e : Entry) → Some e ≡ entry_if v i → e ≡ entry_at d i
-  entry_seen i e is = (entry_if_some d i e (is ∙ ap (λ l. entry_if l i) same)).2
-
-  -- the place of a file whose name an entry has
-  pub place_named : (x : List ℕ) (i : ℕ) → Some i ≡ found v x → Some i ≡ cond (ltb (place_for d x) 16) (Some (place_for d x)) None
+  pub place_named : (i : ℕ) → Some i ≡ found d x → Some i ≡ cond (ltb (place_for d x) 16) (Some (place_for d x)) None
   unfolding place_for
-  place_named x i is =
-      let known = some_from_cond (has_entry d (find d x)) i (find d x) (is ∙ ap (λ l. found l x) same) in
-      let within = (and_parts (has_entries d) (ltb (find d x) 16) known.0).1 in
-      let lt = ltb-true (find d x) 16 within in
-      place_some (place_for d x) i (cond-true (ltb (find d x) 16) (find d x) (unused_from d 0 16) within ∙ sym known.1) (subst (λ k. k < 16) (sym known.1) lt)
+  place_named i is =
+      let known = some_from_cond (ltb (find d x) 16) i (find d x) (is ∙ found_sound) in
+      let place = cond-true (ltb (find d x) 16) (find d x) (unused_from d 0 16) known.0 in
+      ap Some known.1 ∙ sym (ap (λ p. cond (ltb p 16) (Some p) None) place ∙ cond-true _ _ _ known.0)
 
-  -- and of one whose name none has
-  pub place_unnamed : (x : List ℕ) → None ≡ found v x → place_for d x ≡ unused_from d 0 16
+  pub place_unnamed : None ≡ found d x → place_for d x ≡ unused_from d 0 16
   unfolding place_for
-  place_unnamed x is =
-      let gone = none_from_cond (has_entry d (find d x)) (find d x) (is ∙ ap (λ l. found l x) same) in
-      ⊎_elim
-      (λ within. absurd (both_ways _ gone (sound_entry d 16 (find d x) (sound_to_rules d ok) (ltb-true (find d x) 16 within))))
-      (λ past. cond-false (ltb (find d x) 16) (find d x) (unused_from d 0 16) past)
-      (cases_Bool (ltb (find d x) 16))
+  place_unnamed is = cond-false (ltb (find d x) 16) (find d x) (unused_from d 0 16) (none_from_cond (ltb (find d x) 16) (find d x) (is ∙ found_sound))

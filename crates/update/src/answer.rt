@@ -1,6 +1,11 @@
 // What a request answers, and why it is refused.
 ghost use Rattle.std.specs.Prelude.{◌≡◌};
+ghost use Rattle.update.specs.declared.answer.Refusal.TheVariants.{Unsound, BadName};
+ghost use Rattle.update.specs.declared.answer.Done.TheVariants.{Refused};
 ghost use Rattle.update.specs.Answers.{number, value};
+
+use fsck::fault::Fault;
+use layout::name::WrongLength;
 
 // Why a request is refused. More reasons come at the end of the list.
 #[derive(Debug, Clone, Copy, PartialEq, Eq)]
@@ -29,6 +34,22 @@ impl Refusal {
     }
 }
 
+impl From<Fault> for Refusal {
+    ghost from_gives = { λ _ refusal. refusal ≡ Unsound };
+
+    fn from(_fault: Fault) -> Refusal {
+        Refusal::Unsound
+    }
+}
+
+impl From<WrongLength> for Refusal {
+    ghost from_gives = { λ _ refusal. refusal ≡ BadName };
+
+    fn from(_wrong: WrongLength) -> Refusal {
+        Refusal::BadName
+    }
+}
+
 // What a request answers.
 #[derive(Debug, Clone, Copy, PartialEq, Eq)]
 pub enum Done {
@@ -45,6 +66,14 @@ pub enum Done {
     // The room is too short for the file, which has so many bytes.
     Short(usize),
     Refused(Refusal),
+}
+
+impl From<Refusal> for Done {
+    ghost from_gives = { λ refusal done. done ≡ Refused refusal };
+
+    fn from(refusal: Refusal) -> Done {
+        Done::Refused(refusal)
+    }
 }
 
 impl Done {

@@ -1,8 +1,6 @@
 // What a request writes, prepared before its first write.
-ghost use Rattle.std.specs.Prelude.{◌≡◌, ◌<◌, ◌≤◌, true, ◌∷◌, length, drop};
-ghost use Rattle.layout.specs.Files.{entry_bytes};
-ghost use Rattle.fsck.specs.Sound.{sound};
-ghost use Rattle.update.specs.Writes.{entry_write};
+ghost use Rattle.std.specs.Prelude.{◌≡◌, ◌≤◌, length, drop};
+ghost use Rattle.std.specs.Option.{option_to_list};
 ghost use Rattle.update.specs.Putting.{padded};
 ghost use Rattle.update.specs.Requests.{take_writes};
 ghost use Rattle.update.specs.Asking.{asked};
@@ -15,6 +13,7 @@ use crate::choose::{choose_blocks, choose_entry};
 use crate::padded::padded;
 use crate::request::Request;
 use crate::write::{Write, entry_write};
+use fsck::sound_disk::SoundDisk;
 use layout::disk::Disk;
 use layout::entry::Entry;
 use layout::name::Name;
@@ -34,22 +33,22 @@ fn chunk(content: &[u8], at: usize) -> [u8; Disk::BLOCK]
     padded(&content[at.min(content.len())..])
 }
 
-// The write of the block that has entry i, with the entry no more in use and all else as it is.
-fn write_without(disk: &[u8], i: usize) -> Write
-    requires { (512 ≤ length disk.now) × (i < 16) }
-    ensures { result ≡ entry_write disk.now i (0 ∷ drop 1 (entry_bytes disk.now i)) }
+// The write of the block that has the name's entry, with the entry no more in use and all else as it is; none where there is no such entry.
+fn write_without(disk: SoundDisk<'_>, name: &Name) -> Option<Write>
+    ensures { option_to_list result ≡ take_writes disk.entry.bytes.now name.now.bytes }
 {
+    let i = disk.view().find(name)?;
     let at = i * Disk::ENTRY;
     let mut entry = [0; Disk::ENTRY];
-    entry[1..Disk::ENTRY].copy_from_slice(&disk[at + 1..at + Disk::ENTRY]);
-    entry_write(disk, i, &entry)
+    entry[1..].copy_from_slice(&disk.bytes()[at + 1..at + Disk::ENTRY]);
+    Some(entry_write(disk, i, &entry))
 }
 
 impl<'a> Plan<'a> {
     // What putting the file asks for, unless there is no entry for it or too few free blocks.
-    fn of_put(disk: &[u8], name: Name, content: &'a [u8]) -> Option<Plan<'a>>
-        requires { (sound disk.now ≡ true) × (length content.now ≤ 1024) }
-        ensures { PutPlan disk.now name.bytes content.now result }
+    fn of_put(disk: SoundDisk<'_>, name: Name, content: &'a [u8]) -> Option<Plan<'a>>
+        requires { length content.now ≤ 1024 }
+        ensures { PutPlan disk.entry.bytes.now name.bytes content.now result }
     {
         let needed = Disk::blocks_needed(content.len());
         let i = choose_entry(disk, &name)?;
@@ -70,18 +69,13 @@ impl<'a> Plan<'a> {
     }
 
     // What taking the file away asks for: nothing where there is none.
-    fn of_away(disk: &[u8], name: &Name, nothing: &'a [u8]) -> Plan<'a>
-        requires { sound disk.now ≡ true }
-        ensures { plan_writes result ≡ take_writes disk.now name.now.bytes }
+    fn of_away(disk: SoundDisk<'_>, name: &Name) -> Plan<'a>
+        ensures { plan_writes result ≡ take_writes disk.entry.bytes.now name.now.bytes }
     {
-        let last = match Disk::new(disk).find(name) {
-            Some(i) => Some(write_without(disk, i)),
-            None => None,
-        };
         Plan {
-            content: nothing,
+            content: &[],
             blocks: BlockList::new(),
-            last,
+            last: write_without(disk, name),
         }
     }
 
@@ -91,22 +85,16 @@ impl<'a> Plan<'a> {
     {
         match request {
             Request::Put { name, content, .. } => {
-                let name = match admit(disk, name) {
-                    Ok(name) => name,
-                    Err(refusal) => return Err(Done::Refused(refusal)),
-                };
+                let (disk, name) = admit(disk, name)?;
                 if content.len() > Disk::LONGEST {
                     return Err(Done::Refused(Refusal::TooLong));
                 }
-                match Plan::of_put(disk, name, content) {
-                    Some(plan) => Ok(plan),
-                    None => Err(Done::Full),
-                }
+                Plan::of_put(disk, name, content).ok_or(Done::Full)
             }
-            Request::Away { name: bytes, .. } => match admit(disk, bytes) {
-                Ok(name) => Ok(Plan::of_away(disk, &name, bytes)),
-                Err(refusal) => Err(Done::Refused(refusal)),
-            },
+            Request::Away { name, .. } => {
+                let (disk, name) = admit(disk, name)?;
+                Ok(Plan::of_away(disk, &name))
+            }
         }
     }
 

@@ -12,7 +12,8 @@ use crate::answer::Done;
 use crate::plan::Plan;
 use crate::write::write_powered;
 
-#[derive(Clone, Copy)]
+// What is asked of a disk. Each request says for itself for how many writes power lasts: it is part of what the promise is said of.
+#[derive(Debug, Clone, Copy, PartialEq, Eq)]
 pub enum Request<'a> {
     // The bytes are to be put under this name, with power for so many writes.
     Put {
@@ -33,8 +34,7 @@ impl Request<'_> {
         ensures { result ≡ lasts (asked self.now) }
     {
         match *self {
-            Request::Put { lasts, .. } => lasts,
-            Request::Away { lasts, .. } => lasts,
+            Request::Put { lasts, .. } | Request::Away { lasts, .. } => lasts,
         }
     }
 }

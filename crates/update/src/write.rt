@@ -3,6 +3,7 @@ ghost use Rattle.std.specs.Prelude.{◌≡◌, ◌+◌, ◌-◌, ◌*◌, ◌<�
 ghost use Rattle.fsck.specs.Blocks.{size};
 ghost use Rattle.update.specs.Writes.{after_write, entry_write};
 
+use fsck::sound_disk::SoundDisk;
 use layout::disk::Disk;
 
 // A write puts these bytes into the block of this number, all of them or none.
@@ -58,14 +59,14 @@ pub(crate) fn write_powered(disk: &mut [u8], write: &Write, power: &mut u64) -> 
 }
 
 // The write of the block that has entry i, with these bytes in the entry's place and the other entry as it is.
-pub(crate) fn entry_write(disk: &[u8], i: usize, entry: &[u8; Disk::ENTRY]) -> Write
-    requires { (512 ≤ length disk.now) × (i < 16) }
-    ensures { result ≡ entry_write disk.now i entry.now }
+pub(crate) fn entry_write(disk: SoundDisk<'_>, i: usize, entry: &[u8; Disk::ENTRY]) -> Write
+    requires { i < 16 }
+    ensures { result ≡ entry_write disk.entry.bytes.now i entry.now }
 {
     let to = i / 2;
     let at = to * Disk::BLOCK;
     let mut bytes = [0; Disk::BLOCK];
-    bytes.copy_from_slice(&disk[at..at + Disk::BLOCK]);
+    bytes.copy_from_slice(&disk.bytes()[at..at + Disk::BLOCK]);
     let half = i % 2 * Disk::ENTRY;
     bytes[half..half + Disk::ENTRY].copy_from_slice(entry);
     Write { to, bytes }

@@ -1,18 +1,14 @@
-use Rattle.std.proofs.Common.{sym, ap, ◌∙◌}
+use Rattle.std.proofs.Common.{ap, ◌∙◌}
 use Rattle.std.specs.Option.{ok_or}
-use Rattle.fsck.proofs.Judging.{sound_from_none, unsound_from_some}
 use Rattle.update.specs.declared.answer.Refusal.TheVariants.{BadName}
-use Rattle.update.proofs.Admission.{admitted_unsound, admitted-sound}
+use Rattle.update.proofs.Admission.{admitted-sound, answers_unsound, answers_bad_name}
 use Rattle.update.proofs.admit.admit.Goals as goal
 
-pub returns-then-is_some : goal.returns-then-is_some
-returns-then-is_some c =
-    let d = c.args.disk.now in
-    sym (admitted_unsound d _ (unsound_from_some d _ c.first_fault.ensures.value (sym c.is_some.ensures ∙ c.if-is_some.true)))
+pub returns-in_err-disk : goal.returns-in_err-disk
+returns-in_err-disk c = answers_unsound c.args.disk.now c.args.name.now _ _ c.in_err-disk.field-0.0 c.in_err-disk.ensures c.from_residual.ensures.1
+
+pub returns-in_err-name : goal.returns-in_err-name
+returns-in_err-name c = answers_bad_name c.args.disk.now c.args.name.now _ _ c.in_ok-disk.ensures.0 c.in_err-name.ensures.0 c.from_residual-in_err-name.ensures.1
 
 pub returns : goal.returns
-returns c =
-    let d = c.args.disk.now in
-    let x = c.args.name.now in
-    let ok = sound_from_none d _ c.first_fault.ensures.judged (sym c.is_some.ensures ∙ c.if-is_some.false) in
-    c.ok_or.ensures.value ∙ ap (λ o. ok_or o BadName) c.new.ensures ∙ sym (admitted-sound d x ok)
+returns c = (c.in_ok-disk.ensures.1, admitted-sound c.args.disk.now c.args.name.now c.in_ok-disk.ensures.0 ∙ ap (λ o. ok_or o BadName) c.in_ok-name.ensures)

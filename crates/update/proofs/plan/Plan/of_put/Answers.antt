@@ -3,8 +3,6 @@ use Rattle.std.proofs.lemmas.Bool.{and_left, and_right, and_from, ltb-true, le-l
 use Rattle.layout.specs.Entries.{encoded}
 use Rattle.layout.proofs.Finding.{some_from_cond, none_from_cond}
 use Rattle.fsck.specs.Blocks.{free}
-use Rattle.fsck.proofs.Deciding.{sound_to_rules}
-use Rattle.fsck.proofs.Contents.{sound_long}
 use Rattle.update.specs.Listed.{listed}
 use Rattle.update.specs.Writes.{entry_write}
 use Rattle.update.specs.Putting.{padded, data_writes, chosen, place_for, new_entry, put_writes, room_for}
@@ -14,18 +12,18 @@ use Rattle.update.proofs.plan.Plan.of_put.Goals as goal
 pub returns-in_err-i : goal.returns-in_err-i
 unfolding room_for
 returns-in_err-i c =
-    let d = c.args.disk.now in
+    let d = c.args.disk.bytes.now in
     let x = c.args.name.bytes in
     let full = none_from_cond (ltb (place_for d x) 16) (place_for d x) c.in_err-i.ensures in
     subst (PutPlan d x c.args.content.now) (sym c.from_residual.ensures) (and_left _ _ full)
 
 pub choose_blocks-requires : goal.choose_blocks-requires
-choose_blocks-requires c = (c.requires.0, c.blocks_needed-needed.ensures.fewest.least 16 (omega (arith, c.requires.1)))
+choose_blocks-requires c = c.blocks_needed-needed.ensures.fewest.least 16 (omega (arith, c.requires))
 
 pub returns-in_err-blocks : goal.returns-in_err-blocks
 unfolding room_for
 returns-in_err-blocks c =
-    let d = c.args.disk.now in
+    let d = c.args.disk.bytes.now in
     let x = c.args.name.bytes in
     let full = lt-leb c.blocks_needed-needed.result (length (free d)) c.in_err-blocks.ensures in
     subst (PutPlan d x c.args.content.now) (sym c.from_residual-in_err-blocks.ensures)
@@ -37,16 +35,15 @@ here d x i is = some_from_cond (ltb (place_for d x) 16) i (place_for d x) is
 
 pub entry_write-last-requires : goal.entry_write-last-requires
 entry_write-last-requires c =
-    let d = c.args.disk.now in
+    let d = c.args.disk.bytes.now in
     let x = c.args.name.bytes in
     let place = here d x c.in_ok-i.i c.in_ok-i.ensures in
-    let lt = ltb-true (place_for d x) 16 place.0 in
-    (omega (arith, sound_long d 16 (sound_to_rules d c.requires.0)), omega (arith, place.1))
+    omega (arith, ltb-true (place_for d x) 16 place.0, place.1)
 
 pub returns : goal.returns
 unfolding room_for plan_writes put_writes new_entry chosen
 returns c =
-    let d = c.args.disk.now in
+    let d = c.args.disk.bytes.now in
     let x = c.args.name.bytes in
     let xs = c.args.content.now in
     let n = c.blocks_needed-needed.result in
