@@ -1,10 +1,11 @@
 // What a request answers, and why it is refused.
 ghost use Rattle.std.specs.Prelude.{◌≡◌};
 ghost use Rattle.update.specs.declared.answer.Refusal.TheVariants.{Unsound, BadName};
-ghost use Rattle.update.specs.declared.answer.Done.TheVariants.{Refused};
+ghost use Rattle.update.specs.declared.answer.Done.TheVariants.{Short, Refused};
 ghost use Rattle.update.specs.Answers.{number, value};
 
 use fsck::fault::Fault;
+use layout::disk::RoomTooShort;
 use layout::name::WrongLength;
 
 // Why a request is refused. More reasons come at the end of the list.
@@ -66,6 +67,14 @@ pub enum Done {
     // The room is too short for the file, which has so many bytes.
     Short(usize),
     Refused(Refusal),
+}
+
+impl From<RoomTooShort> for Done {
+    ghost from_gives = { λ room done. done ≡ Short room.needed };
+
+    fn from(room: RoomTooShort) -> Done {
+        Done::Short(room.needed)
+    }
 }
 
 impl From<Refusal> for Done {
