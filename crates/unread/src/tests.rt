@@ -1,6 +1,7 @@
 // A disk of thirty blocks with files of 0, 1, 64, 100 and 1,024 bytes, and its unread places worked out by hand.
 use crate::place::is_unread;
 use crate::runs::unread_runs;
+use fsck::fault::Fault;
 use layout::disk::Disk;
 use layout::entry::Entry;
 use layout::name::Name;
@@ -105,8 +106,8 @@ fn disks_that_are_not_sound(rt: HostRuntime) -> Result<(), Fail> {
     if let Some(flag) = disk.get_mut(3 * Disk::ENTRY) {
         *flag = 2;
     }
-    assert_eq!(rt; is_unread(disk.as_slice(), 0), Err(3));
-    assert_eq!(rt; unread_runs(disk.as_slice()).err(), Some(3));
-    assert_eq!(rt; is_unread(&[], 0), Err(16));
+    assert_eq!(rt; is_unread(disk.as_slice(), 0), Err(Fault::Entry(3)));
+    assert_eq!(rt; unread_runs(disk.as_slice()).err(), Some(Fault::Entry(3)));
+    assert_eq!(rt; is_unread(&[], 0), Err(Fault::Size));
     Ok(())
 }

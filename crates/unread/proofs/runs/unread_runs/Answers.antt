@@ -1,22 +1,24 @@
-use Rattle.std.proofs.Common.{sym, refl, arith}
-use Rattle.fsck.proofs.Deciding.{rules_to_sound}
+use Rattle.std.proofs.Common.{rules, refl, arith}
 use Rattle.unread.specs.Unread.{unread}
 use Rattle.unread.proofs.Completeness.{complete}
+use Rattle.unread.proofs.Refusals.{sound_no_fault, refused_place}
 use Rattle.unread.proofs.Stepping.{listed_covers}
 use Rattle.unread.proofs.runs.unread_runs.Goals as goal
 
-pub returns-in-Some : goal.returns-in-Some
-returns-in-Some c =
-    let d = c.args.disk.now in
-    record { answer = sym c.in-Some.ensures.value; ready = tt; covers = λ rs listed k. listed_covers (unread d) rs 0 listed k (omega arith); complete = complete d }
+pub returns-in_err-disk-clause-covers : goal.returns-in_err-disk-clause-covers
+returns-in_err-disk-clause-covers c = λ rs listed k. listed_covers (unread c.args.disk.now) rs 0 listed k (omega arith)
 
-pub returns : goal.returns
-returns c =
-    let d = c.args.disk.now in
-    let none = c.in_default.ensures in
-    record {
-      answer = (sym none.value, refl, refl);
-      ready = record { is_sound = rules_to_sound d none.judged; within = omega arith };
-      covers = λ rs listed k. listed_covers (unread d) rs 0 listed k (omega arith);
-      complete = complete d;
-    }
+pub returns-in_err-disk-clause-complete : goal.returns-in_err-disk-clause-complete
+returns-in_err-disk-clause-complete c = complete c.args.disk.now
+
+pub returns-clause-answer : goal.returns-clause-answer
+returns-clause-answer c = (sound_no_fault c.args.disk.now c.in_ok-disk.ensures.0, c.in_ok-disk.ensures.1, refl)
+
+pub returns-clause-covers : goal.returns-clause-covers
+returns-clause-covers c = λ rs listed k. listed_covers (unread c.args.disk.now) rs 0 listed k (omega arith)
+
+pub returns-clause-complete : goal.returns-clause-complete
+returns-clause-complete c = complete c.args.disk.now
+
+pub returns-in_err-disk-clause-places : goal.returns-in_err-disk-clause-places
+returns-in_err-disk-clause-places c = search (rules, refused_place)

@@ -8,7 +8,7 @@ use Rattle.fsck.proofs.Deciding.{sound_to_rules}
 use Rattle.unread.specs.Unread.{read_of_entry, read_of_block}
 use Rattle.unread.proofs.Extents.{read_of_entry_most, read_of_block_most}
 use Rattle.unread.proofs.Behind.{unread-behind_entry, unread-behind-block}
-use Rattle.unread.proofs.extent.Extent.at.Goals as goal
+use Rattle.unread.proofs.extent.unread_rest.Goals as goal
 
 -- the place is in the table of entries
 record InTable (d : List ℕ) (place read : ℕ) : Type 0 where
@@ -17,12 +17,12 @@ record InTable (d : List ℕ) (place read : ℕ) : Type 0 where
   is : read ≡ read_of_entry (entry_at d (place / 32))
   most : read ≤ 30
 
-in_table : (c : goal.After-read_of_entry) → InTable c.args.disk.now c.args.place c.read_of_entry.result
+in_table : (c : goal.After-read_of_entry) → InTable c.args.disk.bytes.now c.args.place c.read_of_entry.result
 in_table c =
-    let d = c.args.disk.now in
+    let d = c.args.disk.bytes.now in
     let i = c.args.place / 32 in
-    let rules = sound_to_rules d c.requires.sound in
-    let known = entry_if_some d i c.in-Some.entry (c.in-Some.ensures ∙ (λ j. entry_if (c.new-view.ensures j).now i)) in
+    let rules = sound_to_rules d c.args.disk.sound in
+    let known = entry_if_some d i c.in-Some.entry (c.in-Some.ensures ∙ (λ j. entry_if (c.view-view.ensures j).now i)) in
     let read = c.read_of_entry.ensures ∙ ap read_of_entry known.2 in
     record { in_table = known.1; long = sound_long d 16 rules; is = read; most = subst (λ n. n ≤ 30) (sym read) (read_of_entry_most d i rules known.1) }
 
@@ -34,8 +34,8 @@ returns-in-Some c =
     let place = c.args.place in
     let here = in_table c in
     record {
-      behind = (omega arith, omega (arith, here.in_table, here.long));
-      unread = λ k from to. unread-behind_entry c.args.disk.now place k from here.in_table (omega (arith, here.long)) to ∙ ap (λ r. leb (place / 32 * 32 + r) k) (sym here.is);
+      behind = (omega arith, omega (arith, here.most), omega (arith, here.in_table, here.long));
+      unread = λ k from to. unread-behind_entry c.args.disk.bytes.now place k from here.in_table (omega (arith, here.long)) to ∙ ap (λ r. leb (place / 32 * 32 + r) k) (sym here.is);
     }
 
 -- the place is in a block for files
@@ -54,29 +54,29 @@ in_block d place ok there none =
     record { entries = entries; for_files = omega (arith, behind); on_disk = omega (arith, rules.whole); few = omega (arith, rules.whole, rules.most) }
 
 -- no entry was found at the place
-behind_table : (c : goal.In_default) → InBlock c.args.disk.now c.args.place
-behind_table c = in_block c.args.disk.now c.args.place c.requires.sound c.requires.there (c.in_default.ensures ∙ (λ j. entry_if (c.new-view.ensures j).now (c.args.place / 32)))
+behind_table : (c : goal.In_default) → InBlock c.args.disk.bytes.now c.args.place
+behind_table c = in_block c.args.disk.bytes.now c.args.place c.args.disk.sound c.requires (c.in_default.ensures ∙ (λ j. entry_if (c.view-view.ensures j).now (c.args.place / 32)))
 
 pub overflow_cast-b : goal.overflow_cast-b
 overflow_cast-b c = omega (arith, (behind_table c).few)
 
 pub read_of_block-requires : goal.read_of_block-requires
-read_of_block-requires c = (λ j. has_entries (c.new-view.ensures j).now) ∙ (behind_table c).entries
+read_of_block-requires c = (λ j. has_entries (c.view-view.ensures j).now) ∙ (behind_table c).entries
 
 -- and its block is read so far
-read : (c : goal.After-read_of_block) → (c.read_of_block.result ≡ read_of_block c.args.disk.now (c.args.place / 64) 16) × InBlock c.args.disk.now c.args.place
+read : (c : goal.After-read_of_block) → (c.read_of_block.result ≡ read_of_block c.args.disk.bytes.now (c.args.place / 64) 16) × InBlock c.args.disk.bytes.now c.args.place
 read c =
-    let d = c.args.disk.now in
-    (c.read_of_block.ensures ∙ (λ j. read_of_block (c.new-view.ensures j).now (c.args.place / 64) 16), in_block d c.args.place c.requires.sound c.requires.there (c.in_default.ensures ∙ (λ j. entry_if (c.new-view.ensures j).now (c.args.place / 32))))
+    let d = c.args.disk.bytes.now in
+    (c.read_of_block.ensures ∙ (λ j. read_of_block (c.view-view.ensures j).now (c.args.place / 64) 16), in_block d c.args.place c.args.disk.sound c.requires (c.in_default.ensures ∙ (λ j. entry_if (c.view-view.ensures j).now (c.args.place / 32))))
 
 pub overflow_add-result-2 : goal.overflow_add-result-2
-overflow_add-result-2 c = omega (arith, (read c).0, read_of_block_most c.args.disk.now (c.args.place / 64) 16, (read c).1.few)
+overflow_add-result-2 c = omega (arith, (read c).0, read_of_block_most c.args.disk.bytes.now (c.args.place / 64) 16, (read c).1.few)
 
 pub returns : goal.returns
 returns c =
     let place = c.args.place in
     let here = (read c).1 in
     record {
-      behind = (omega arith, here.on_disk);
-      unread = λ k from to. unread-behind-block c.args.disk.now place k from here.for_files here.on_disk to ∙ ap (λ r. leb (place / 64 * 64 + r) k) (sym (read c).0);
+      behind = (omega arith, omega (arith, (read c).0, read_of_block_most c.args.disk.bytes.now (place / 64) 16), here.on_disk);
+      unread = λ k from to. unread-behind-block c.args.disk.bytes.now place k from here.for_files here.on_disk to ∙ ap (λ r. leb (place / 64 * 64 + r) k) (sym (read c).0);
     }
