@@ -4,6 +4,7 @@ use Rattle.std.specs.List.{flat_map}
 use Rattle.std.proofs.lemmas.List.{flat_map_more, take_more, drop_all, take_all, drop-drop}
 use Rattle.std.proofs.lemmas.Bool.{cases_lt, le-ltb}
 use Rattle.layout.specs.Parts.{replaced}
+use Rattle.layout.specs.declared.disk.RoomTooShort.{RoomTooShort}
 use Rattle.layout.specs.Files.{block, Copies}
 use Rattle.layout.proofs.Slices.{take_min, take_nil, take-append, replaced-behind}
 
@@ -63,6 +64,6 @@ module _ (f : ℕ → List ℕ) (bs : List ℕ) (len : ℕ) where
   unfolding front
   front_none = take_nil len
 
-pub copies_all : (n : ℕ) (c room : List ℕ) (r : Result ℕ ℕ) (room₁ : List ℕ) → n ≤ length room → r ≡ Ok (length c) → room₁ ≡ c ++ drop (length c) room → Copies n c room r room₁
+pub copies_all : (n : ℕ) (c room : List ℕ) (r : Result ℕ RoomTooShort) (room₁ : List ℕ) → n ≤ length room → r ≡ Ok (length c) → room₁ ≡ c ++ drop (length c) room → Copies n c room r room₁
 copies_all n c room r room₁ fits is has =
-    subst (λ b. MatchBool b ((r ≡ Err n) × (room₁ ≡ room)) ((r ≡ Ok (length c)) × (room₁ ≡ c ++ drop (length c) room))) (sym (le-ltb (length room) n fits)) (is, has)
+    subst (λ b. MatchBool b ((r ≡ Err (record { needed = n })) × (room₁ ≡ room)) ((r ≡ Ok (length c)) × (room₁ ≡ c ++ drop (length c) room))) (sym (le-ltb (length room) n fits)) (is, has)

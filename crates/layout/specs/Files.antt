@@ -1,10 +1,11 @@
 -- The files of a disk, as the old machine reads them. Assumes nothing.
-use Rattle.std.specs.Prelude.{◌≡◌, ℕ, zero, suc, ◌+◌, ◌*◌, Bool, cond, ◌&&◌, List, ◌++◌, length, take, drop, Some, None, Ok, Err, MatchBool, Option, Result, nat_le, nat_lt}
+use Rattle.std.specs.Prelude.{◌≡◌, ℕ, zero, suc, ◌+◌, ◌*◌, Bool, cond, ◌&&◌, List, ◌++◌, length, map, take, drop, Some, None, Ok, Err, MatchBool, Option, Result, nat_le, nat_lt}
 use Rattle.std.specs.Borrow.{Bor}
-use Rattle.std.specs.List.{flat_map}
+use Rattle.std.specs.List.{flat_map, range_with_len}
 use Rattle.std.specs.Option.{option_map}
 use Rattle.std.specs.Str.{bytes_eq}
 use Rattle.layout.specs.declared.disk.Disk.{Disk}
+use Rattle.layout.specs.declared.disk.RoomTooShort.{RoomTooShort}
 use Rattle.layout.specs.declared.entry.Entry.{Entry}
 use Rattle.layout.specs.Entries.{decoded, blocks_of}
 
@@ -23,6 +24,10 @@ entry_bytes d i = take 32 (drop (32 * i) d)
 -- entry i, decoded
 unfoldable pub entry_at : List ℕ → ℕ → Entry
 entry_at d i = decoded (entry_bytes d i)
+
+-- the sixteen entries in their order
+unfoldable pub entries : List ℕ → List Entry
+entries d = map (entry_at d) (range_with_len 0 16)
 
 -- there is an entry i
 abbrev pub has_entry : List ℕ → ℕ → Bool
@@ -70,5 +75,5 @@ unfoldable pub file : List ℕ → List ℕ → Option (List ℕ)
 file d x = option_map (content d) (entry_of d x)
 
 -- what copying a file of n bytes, with this content, into a room answers and leaves
-abbrev pub Copies : (n : ℕ) (c room : List ℕ) → Result ℕ ℕ → (room₁ : List ℕ) → Type 0
-Copies n c room r room₁ = MatchBool (nat_lt (length room) n) ((r ≡ Err n) × (room₁ ≡ room)) ((r ≡ Ok (length c)) × (room₁ ≡ c ++ drop (length c) room))
+abbrev pub Copies : (n : ℕ) (c room : List ℕ) → Result ℕ RoomTooShort → (room₁ : List ℕ) → Type 0
+Copies n c room r room₁ = MatchBool (nat_lt (length room) n) ((r ≡ Err (record { needed = n })) × (room₁ ≡ room)) ((r ≡ Ok (length c)) × (room₁ ≡ c ++ drop (length c) room))

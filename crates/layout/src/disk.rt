@@ -1,16 +1,30 @@
 // The disk's type: its limits, and what the old machine does with it.
-ghost use Rattle.std.specs.Prelude.{◌≡◌, true, false, if◌then◌else◌, None, MatchOption};
-ghost use Rattle.layout.specs.Entries.{needs};
-ghost use Rattle.layout.specs.Files.{has_entries, has_entry, held, EntryPart, entry_if, block, content, find, found, entry_of, Copies};
+ghost use Rattle.std.specs.Prelude.{◌≡◌, true, false, if◌then◌else◌, Some, None, MatchOption, position, ◌&&◌};
+ghost use Rattle.std.specs.Str.{bytes_eq};
+ghost use Rattle.layout.specs.Entries.{needs, decoded};
+ghost use Rattle.layout.specs.Files.{has_entries, has_entry, entries, held, EntryPart, entry_if, block, content, find, found, entry_of, Copies};
 ghost use Rattle.layout.specs.Words.{FewestBlocks, First, NoFile};
 
 use crate::entry::{Entry, array};
 use crate::name::Name;
 
+// The room is shorter than the file, which needs so many bytes.
+#[derive(Clone, Copy, Debug, PartialEq, Eq)]
+pub struct RoomTooShort {
+    pub needed: usize,
+}
+
 // A disk's bytes, as the old machine reads them. They may be any bytes: what is not there is refused where it is asked for.
 #[derive(Clone, Copy)]
 pub struct Disk<'a> {
     bytes: &'a [u8],
+}
+
+// The place of the first of these entries that is in use and has the name.
+fn position_named(entries: &[Entry], name: &Name) -> Option<usize>
+    ensures { result ≡ position (λ e. e.used && bytes_eq e.name.bytes name.now.bytes) entries.now }
+{
+    entries.iter().position(|entry| entry.is_named(name))
 }
 
 impl<'a> Disk<'a> {
@@ -64,20 +78,25 @@ impl<'a> Disk<'a> {
         Some(Entry::decode(&array(bytes)))
     }
 
+    // All entries in their order, where the disk is long enough to hold them.
+    pub fn entries(&self) -> Option<[Entry; Disk::ENTRIES]>
+        ensures { result ≡ (if has_entries (held self.now) then Some (entries (held self.now)) else None) }
+    {
+        let (parts, _) = self.bytes.as_chunks::<{ Disk::ENTRY }>();
+        let parts = parts.first_chunk::<{ Disk::ENTRIES }>()?;
+        let decode = |part: [u8; Disk::ENTRY]| -> Entry
+            ensures { result ≡ decoded part }
+        { Entry::decode(&part) };
+        Some(parts.map(decode))
+    }
+
     // The place of the first entry that is in use and has the name.
     pub fn find(&self, name: &Name) -> Option<usize>
         ensures value { result ≡ found (held self.now) name.now.bytes }
         ensures first { First (held self.now) name.now.bytes (find (held self.now) name.now.bytes) }
     {
-        for i in 0..Disk::ENTRIES {
-            if let Some(entry) = self.entry(i)
-                && entry.used
-                && entry.name == *name
-            {
-                return Some(i);
-            }
-        }
-        None
+        let entries = self.entries()?;
+        position_named(&entries, name)
     }
 
     // The entry whose file the old machine reads under the name.
@@ -98,14 +117,15 @@ impl<'a> Disk<'a> {
         &self.bytes[from..to]
     }
 
-    // Puts the bytes of the entry's file into the front of the room and answers how many they are; or answers the entry's length, where the room is shorter, and leaves the room as it was.
-    pub fn copy_file(&self, file: &Entry, room: &mut [u8]) -> Result<usize, usize>
+    // Puts the bytes of the entry's file into the front of the room and answers how many they are; or refuses a room that is shorter than the entry's length, and leaves it as it was.
+    pub fn copy_file(&self, file: &Entry, room: &mut [u8]) -> Result<usize, RoomTooShort>
         ensures { Copies file.now.len (content (held self.now) file.now) room.old result room.new }
     {
         let len = usize::from(file.len);
         if room.len() < len {
-            return Err(len);
+            return Err(RoomTooShort { needed: len });
         }
+        // A place, and no `chunks_mut`: a block past the end of the disk is shorter than the others.
         let mut at = 0;
         for b in file.file_blocks() {
             let bytes = self.block(*b);

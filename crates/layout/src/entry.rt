@@ -1,12 +1,13 @@
 // An entry of a disk: what its 32 bytes spell.
-ghost use Rattle.std.specs.Prelude.{◌≡◌, ◌+◌, ◌≤◌, length, slice_index};
+ghost use Rattle.std.specs.Prelude.{◌≡◌, ◌+◌, ◌≤◌, ◌&&◌, length, slice_index};
+ghost use Rattle.std.specs.Str.{bytes_eq};
 ghost use Rattle.layout.specs.Entries.{decoded, encoded, blocks_of};
 ghost use Rattle.layout.specs.Parts.{replaced};
 
 use crate::disk::Disk;
 use crate::name::Name;
 
-#[derive(Clone, Copy)]
+#[derive(Clone, Copy, Debug, PartialEq, Eq)]
 pub struct Entry {
     pub used: bool,
     pub name: Name,
@@ -23,10 +24,7 @@ pub(crate) fn array<const N: usize>(bytes: &[u8]) -> [u8; N]
     requires { length bytes.now ≡ N }
     ensures { result ≡ bytes.now }
 {
-    match <[u8; N]>::try_from(bytes) {
-        Ok(own) => own,
-        Err(_) => unreachable(),
-    }
+    <[u8; N]>::try_from(bytes).unwrap()
 }
 
 // Puts the part in the place of what stood from `at` on.
@@ -75,6 +73,13 @@ impl Entry {
         replace_at(&mut bytes, Entry::BLOCKS_AT, &self.blocks);
         replace_at(&mut bytes, Entry::UNREAD_AT, &self.unread);
         bytes
+    }
+
+    // Whether the entry is in use and has the name.
+    pub fn is_named(&self, name: &Name) -> bool
+        ensures { result ≡ (self.now.used && bytes_eq self.now.name.bytes name.now.bytes) }
+    {
+        self.used && self.name == *name
     }
 
     // The numbers of the file's blocks, in order: as many as it needs.

@@ -1,41 +1,43 @@
 // A file's name: eleven bytes, whatever they are.
-ghost use Rattle.std.specs.Prelude.{◌≡◌, Decides};
+ghost use Rattle.std.specs.Prelude.{◌≡◌, Some, None, MatchResult, length};
 ghost use Rattle.layout.specs.Entries.{named};
-ghost use Rattle.std.specs.Cmp.Rules.{comparing};
-ghost use Rattle.std.specs.Ordering.{on};
-ghost use Rattle.std.specs.Str.{bytes_eq};
-ghost use Rattle.std.proofs.Common.{rules};
 
-#[derive(Clone, Copy)]
+use std::error::Error;
+use std::fmt;
+
+#[derive(Clone, Copy, Debug, PartialEq, Eq)]
 pub struct Name {
     pub bytes: [u8; Name::SIZE],
 }
 
 impl Name {
     pub const SIZE: usize = 11;
+}
+
+// So many bytes are no name.
+#[derive(Clone, Copy, Debug, PartialEq, Eq)]
+pub struct WrongLength {
+    pub len: usize,
+}
+
+impl TryFrom<&[u8]> for Name {
+    type Error = WrongLength;
+
+    ghost try_from_gives = { λ bytes result. MatchResult result (λ name. named bytes.now ≡ Some name) (λ wrong. (named bytes.now ≡ None) × (wrong.len ≡ length bytes.now)) };
 
     // The name of these bytes, unless they are not eleven.
-    pub fn new(bytes: &[u8]) -> Option<Name>
-        ensures { result ≡ named bytes.now }
-    {
-        if bytes.len() != Name::SIZE {
-            return None;
+    fn try_from(bytes: &[u8]) -> Result<Name, WrongLength> {
+        match <[u8; Name::SIZE]>::try_from(bytes) {
+            Ok(bytes) => Ok(Name { bytes }),
+            Err(_) => Err(WrongLength { len: bytes.len() }),
         }
-        let mut own = [0; Name::SIZE];
-        own.copy_from_slice(bytes);
-        Some(Name { bytes: own })
     }
 }
 
-impl PartialEq for Name {
-    ghost eq = { on (λ n. n.bytes) bytes_eq };
-
-    ghost laws = { Prim.search (comparing, rules) };
-
-    fn eq(&self, other: &Name) -> bool
-        ensures value { result ≡ bytes_eq self.now.bytes other.now.bytes }
-        ensures equal { Decides result (self.now ≡ other.now) }
-    {
-        self.bytes == other.bytes
+impl fmt::Display for WrongLength {
+    fn fmt<W: fmt::Write>(&self, f: &mut fmt::Formatter<W>) -> fmt::Result {
+        write!(f, "a name has {} bytes, and not {}", Name::SIZE, self.len)
     }
 }
+
+impl Error for WrongLength {}

@@ -25,7 +25,9 @@ fn junk_in_block_numbers(rt: HostRuntime) -> Result<(), Fail> {
     let mut blocks = [250; Disk::FILE_BLOCKS];
     blocks[0] = 9;
     blocks[1] = 8;
-    let name = Name::new(b"ROSE       ").ok_or("eleven bytes")?;
+    let name = Name {
+        bytes: *b"ROSE       ",
+    };
     let entry = Entry {
         used: true,
         name,

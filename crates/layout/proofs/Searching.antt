@@ -1,0 +1,25 @@
+-- The first of a row of entries that passes a test, and its place in the list of them. Assumes nothing.
+use Rattle.std.proofs.Common.{◌≡◌, ℕ, zero, suc, ◌+◌, Bool, true, false, not, ◌&&◌, cond, map, position, Some, None, List, ltb, sym, ap, ◌∙◌, add-one, arith}
+use Rattle.std.specs.List.{range_with_len, position_or_len}
+use Rattle.std.specs.Str.{bytes_eq}
+use Rattle.layout.specs.declared.entry.Entry.{Entry}
+use Rattle.layout.specs.Files.{entries, entry_at, has_name, find_from, find}
+
+-- one step of a search from i on, where the rest of it goes on from the next number
+pub search_step : (b : Bool) (i rest more : ℕ) → rest ≡ suc i + more → cond b i rest ≡ i + cond (not b) (1 + more) 0
+search_step true i rest more is = omega arith
+search_step false i rest more is = is ∙ omega arith
+
+find_from-position : (d x : List ℕ) (i n : ℕ) → find_from d x i n ≡ i + position_or_len (λ (e : Entry). e.used && bytes_eq e.name.bytes x) (map (entry_at d) (range_with_len i n))
+unfolding find_from has_name
+find_from-position d x i zero = omega arith
+find_from-position d x i (suc n) =
+    search_step _ i _ _ (find_from-position d x (suc i) n ∙ ap (λ k. suc i + position_or_len (λ (e : Entry). e.used && bytes_eq e.name.bytes x) (map (entry_at d) (range_with_len k n))) (sym (add-one i)))
+
+-- the place of the first entry that is in use and has the name
+pub position-find : (d x : List ℕ) → position (λ (e : Entry). e.used && bytes_eq e.name.bytes x) (entries d) ≡ cond (ltb (find d x) 16) (Some (find d x)) None
+unfolding find entries
+position-find d x =
+    let place = find_from-position d x 0 16 in
+    let same : position_or_len (λ (e : Entry). e.used && bytes_eq e.name.bytes x) (map (entry_at d) (range_with_len 0 16)) ≡ find_from d x 0 16 = omega (arith, place) in
+    ap (λ n. cond (ltb n 16) (Some n) None) same
