@@ -1,13 +1,18 @@
 -- What is read of an entry and of a block, counted entry after entry and block after block. Assumes nothing.
-use Rattle.std.proofs.Common.{◌≡◌, ℕ, zero, suc, ◌+◌, ◌-◌, ◌*◌, ◌<◌, ◌≤◌, min, max, true, false, eqb, List, [], ◌∷◌, sym, refl, ap, ◌∙◌, ⊎_elim, arith}
-use Rattle.std.specs.List.{position, position_from}
+use Rattle.std.proofs.Common.{Bool, cond, map, add-one, ◌≡◌, ℕ, zero, suc, ◌+◌, ◌-◌, ◌*◌, ◌<◌, ◌≤◌, min, max, true, false, eqb, List, [], ◌∷◌, length, sym, refl, ap, ◌∙◌, ⊎_elim, arith}
+use Rattle.std.specs.List.{range_with_len, fold, filter, position, position_from}
+use Rattle.std.proofs.lemmas.List.FromFn.{filter_of_map_range_with_len_more}
+use Rattle.std.proofs.lemmas.List.Sums.{fold-append}
 use Rattle.std.specs.Option.{option_map_or}
 use Rattle.std.proofs.lemmas.Iterator.Adapters.{position_from-zero}
-use Rattle.std.proofs.lemmas.Bool.{cases_eq, cond-true, cond-false, cond_both, eq-eqb, ne_eqb}
+use Rattle.std.proofs.lemmas.Bool.{cases_eq, cond-true, cond-false, cond_both, eq-eqb, ne_eqb, le-leb}
 use Rattle.layout.specs.declared.entry.Entry.{Entry}
 use Rattle.layout.specs.Entries.{needs, blocks_of}
-use Rattle.layout.specs.Files.{entry_at}
-use Rattle.fsck.specs.Rules.{Used, Sound}
+use Rattle.layout.specs.Files.{has_entries, entry_at}
+use Rattle.fsck.specs.Sound.{sound}
+use Rattle.fsck.specs.Rules.{Sound}
+use Rattle.fsck.proofs.Contents.{sound_long}
+use Rattle.fsck.proofs.Deciding.{sound_to_rules}
 use Rattle.unread.specs.Unread.{read_of_entry, read_by_file, read_of_block}
 
 -- the flag of an entry is read
@@ -64,11 +69,24 @@ read_of_block_most d b (suc i) =
     let file = cond_both (entry_at d i).used _ 0 (λ m. m ≤ 64) (λ _. read_by_file_most b (blocks_of (entry_at d i)) (entry_at d i).len) (λ _. omega arith) in
     omega (arith, file, read_of_block_most d b i)
 
-module _ (d : List ℕ) (b i : ℕ) where
-  pub read_of_block_used : Used d i → read_of_block d b (suc i) ≡ max (read_of_block d b i) (read_by_file b (blocks_of (entry_at d i)) (entry_at d i).len)
-  unfolding read_of_block
-  read_of_block_used is = ap (max (read_of_block d b i)) (cond-true _ _ _ is)
+-- the last of some entries, if it is in use
+last_entry : (b read : ℕ) (e : Entry) (used : Bool) → fold (λ m (f : Entry). max m (read_by_file b (blocks_of f) f.len)) read (cond used (e ∷ []) []) ≡ max read (cond used (read_by_file b (blocks_of e) e.len) 0)
+last_entry b read e true = refl
+last_entry b read e false = sym (max_zero read)
 
-  pub read_of_block_unused : (entry_at d i).used ≡ false → read_of_block d b (suc i) ≡ read_of_block d b i
-  unfolding read_of_block
-  read_of_block_unused isn't = ap (max (read_of_block d b i)) (cond-false _ _ _ isn't) ∙ max_zero _
+-- the same, counted along the list of entries
+pub most_read_all : (d : List ℕ) (b n : ℕ) → fold (λ m (f : Entry). max m (read_by_file b (blocks_of f) f.len)) 0 (filter (λ (f : Entry). f.used) (map (entry_at d) (range_with_len 0 n))) ≡ read_of_block d b n
+unfolding read_of_block
+most_read_all d b zero = refl
+most_read_all d b (suc i) =
+    let most = λ (l : List Entry). fold (λ m (f : Entry). max m (read_by_file b (blocks_of f) f.len)) 0 l in
+    let used = λ (f : Entry). f.used in
+    ap (λ n. most (filter used (map (entry_at d) (range_with_len 0 n)))) (sym (add-one i))
+    ∙ ap most (filter_of_map_range_with_len_more used (entry_at d) 0 i i (omega arith))
+    ∙ fold-append _ 0 (filter used (map (entry_at d) (range_with_len 0 i))) _
+    ∙ last_entry b _ (entry_at d i) (entry_at d i).used
+    ∙ ap (λ m. max m (cond (entry_at d i).used (read_by_file b (blocks_of (entry_at d i)) (entry_at d i).len) 0)) (most_read_all d b i)
+
+-- a sound disk is long enough to hold its entries
+pub sound_has_entries : (d : List ℕ) → sound d ≡ true → has_entries d ≡ true
+sound_has_entries d ok = le-leb 512 (length d) (omega (arith, sound_long d 16 (sound_to_rules d ok)))

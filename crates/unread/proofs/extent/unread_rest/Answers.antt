@@ -1,12 +1,12 @@
 use Rattle.std.proofs.Common.{◌≡◌, ℕ, ◌+◌, ◌*◌, ◌/◌, ◌<◌, ◌≤◌, true, ◌&&◌, ltb, leb, List, length, None, sym, ap, ◌∙◌, subst, arith}
-use Rattle.std.proofs.lemmas.Bool.{le-leb, ltb-false}
-use Rattle.layout.specs.Files.{has_entries, entry_at, entry_if}
+use Rattle.std.proofs.lemmas.Bool.{ltb-false}
+use Rattle.layout.specs.Files.{entry_at, entry_if}
 use Rattle.layout.proofs.Finding.{entry_if_some, none_from_cond}
 use Rattle.fsck.specs.Sound.{sound}
 use Rattle.fsck.proofs.Contents.{sound_long}
 use Rattle.fsck.proofs.Deciding.{sound_to_rules}
-use Rattle.unread.specs.Unread.{read_of_entry, read_of_block}
-use Rattle.unread.proofs.Extents.{read_of_entry_most, read_of_block_most}
+use Rattle.unread.specs.Unread.{read_of_entry}
+use Rattle.unread.proofs.Extents.{read_of_entry_most, read_of_block_most, sound_has_entries}
 use Rattle.unread.proofs.Behind.{unread-behind_entry, unread-behind-block}
 use Rattle.unread.proofs.extent.unread_rest.Goals as goal
 
@@ -22,7 +22,7 @@ in_table c =
     let d = c.args.disk.bytes.now in
     let i = c.args.place / 32 in
     let rules = sound_to_rules d c.args.disk.sound in
-    let known = entry_if_some d i c.in-Some.entry (c.in-Some.ensures ∙ (λ j. entry_if (c.view-view.ensures j).now i)) in
+    let known = entry_if_some d i c.in-Some.entry (c.in-Some.ensures ∙ (λ j. entry_if (c.view.ensures j).now i)) in
     let read = c.read_of_entry.ensures ∙ ap read_of_entry known.2 in
     record { in_table = known.1; long = sound_long d 16 rules; is = read; most = subst (λ n. n ≤ 30) (sym read) (read_of_entry_most d i rules known.1) }
 
@@ -40,7 +40,6 @@ returns-in-Some c =
 
 -- the place is in a block for files
 record InBlock (d : List ℕ) (place : ℕ) : Type 0 where
-  entries : has_entries d ≡ true
   for_files : 8 ≤ place / 64
   on_disk : place / 64 * 64 + 64 ≤ length d
   few : place / 64 < 250
@@ -49,34 +48,29 @@ in_block : (d : List ℕ) (place : ℕ) → sound d ≡ true → place < length 
 in_block d place ok there none =
     let i = place / 32 in
     let rules = sound_to_rules d ok in
-    let entries = le-leb 512 (length d) (omega (arith, sound_long d 16 rules)) in
-    let behind : 16 ≤ i = ltb-false i 16 (sym (ap (λ b. b && ltb i 16) entries) ∙ none_from_cond _ _ none) in
-    record { entries = entries; for_files = omega (arith, behind); on_disk = omega (arith, rules.whole); few = omega (arith, rules.whole, rules.most) }
+    let behind : 16 ≤ i = ltb-false i 16 (sym (ap (λ b. b && ltb i 16) (sound_has_entries d ok)) ∙ none_from_cond _ _ none) in
+    record { for_files = omega (arith, behind); on_disk = omega (arith, rules.whole); few = omega (arith, rules.whole, rules.most) }
 
 -- no entry was found at the place
 behind_table : (c : goal.In_default) → InBlock c.args.disk.bytes.now c.args.place
-behind_table c = in_block c.args.disk.bytes.now c.args.place c.args.disk.sound c.requires (c.in_default.ensures ∙ (λ j. entry_if (c.view-view.ensures j).now (c.args.place / 32)))
+behind_table c = in_block c.args.disk.bytes.now c.args.place c.args.disk.sound c.requires (c.in_default.ensures ∙ (λ j. entry_if (c.view.ensures j).now (c.args.place / 32)))
 
 pub overflow_cast-b : goal.overflow_cast-b
 overflow_cast-b c = omega (arith, (behind_table c).few)
 
-pub read_of_block-requires : goal.read_of_block-requires
-read_of_block-requires c = (λ j. has_entries (c.view-view.ensures j).now) ∙ (behind_table c).entries
-
 -- and its block is read so far
-read : (c : goal.After-read_of_block) → (c.read_of_block.result ≡ read_of_block c.args.disk.bytes.now (c.args.place / 64) 16) × InBlock c.args.disk.bytes.now c.args.place
-read c =
-    let d = c.args.disk.bytes.now in
-    (c.read_of_block.ensures ∙ (λ j. read_of_block (c.view-view.ensures j).now (c.args.place / 64) 16), in_block d c.args.place c.args.disk.sound c.requires (c.in_default.ensures ∙ (λ j. entry_if (c.view-view.ensures j).now (c.args.place / 32))))
+in_block_read : (c : goal.After-read_of_block) → InBlock c.args.disk.bytes.now c.args.place
+in_block_read c = in_block c.args.disk.bytes.now c.args.place c.args.disk.sound c.requires (c.in_default.ensures ∙ (λ j. entry_if (c.view.ensures j).now (c.args.place / 32)))
 
 pub overflow_add-result-2 : goal.overflow_add-result-2
-overflow_add-result-2 c = omega (arith, (read c).0, read_of_block_most c.args.disk.bytes.now (c.args.place / 64) 16, (read c).1.few)
+overflow_add-result-2 c = omega (arith, c.read_of_block.ensures, read_of_block_most c.args.disk.bytes.now (c.args.place / 64) 16, (in_block_read c).few)
 
 pub returns : goal.returns
 returns c =
+    let d = c.args.disk.bytes.now in
     let place = c.args.place in
-    let here = (read c).1 in
+    let here = in_block_read c in
     record {
-      behind = (omega arith, omega (arith, (read c).0, read_of_block_most c.args.disk.bytes.now (place / 64) 16), here.on_disk);
-      unread = λ k from to. unread-behind-block c.args.disk.bytes.now place k from here.for_files here.on_disk to ∙ ap (λ r. leb (place / 64 * 64 + r) k) (sym (read c).0);
+      behind = (omega arith, omega (arith, c.read_of_block.ensures, read_of_block_most d (place / 64) 16), here.on_disk);
+      unread = λ k from to. unread-behind-block d place k from here.for_files here.on_disk to ∙ ap (λ r. leb (place / 64 * 64 + r) k) (sym c.read_of_block.ensures);
     }

@@ -1,0 +1,19 @@
+use Rattle.std.proofs.Common.{unwrap_or, rules, ap, ◌∙◌}
+use borrow.Author.Tests.{tests}
+use Rattle.std.specs.List.{filter}
+use Rattle.std.proofs.lemmas.Iterator.{YieldsList-from_slice, YieldsList-from_map}
+use Rattle.std.proofs.lemmas.Iterator.Consumers.{YieldsList-at, YieldsList-from_filter, reduce_from_yields_List}
+use Rattle.std.proofs.lemmas.List.Folds.{max_of_map}
+use Rattle.layout.specs.declared.entry.Entry.{Entry}
+use Rattle.layout.specs.Entries.{blocks_of}
+use Rattle.unread.specs.Unread.{read_by_file}
+use Rattle.unread.proofs.extent.most_read.Goals as goal
+
+pub returns : goal.returns
+returns c =
+    let read = λ (e : Entry). read_by_file c.args.b (blocks_of e) e.len in
+    let used = λ (e : Entry). e.used in
+    c.unwrap_or.ensures ∙ ap (λ o. unwrap_or o 0) (reduce_from_yields_List _ _ _ c.max.ensures.ran
+    (YieldsList-from_map _ read
+    (YieldsList-at c.map.ensures.source (YieldsList-from_filter _ used (YieldsList-from_slice c.args.entries.now cc) c.filter.ensures.closure (λ x r q k. search (rules, tests))))
+    c.map.ensures.closure (λ x r q k. search (rules, tests)))) ∙ max_of_map read (filter used c.args.entries.now)
