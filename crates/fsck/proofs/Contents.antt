@@ -4,15 +4,18 @@ use Rattle.std.specs.List.{flat_map}
 use Rattle.std.proofs.lemmas.Bool.{and_from, le-leb, lt-ltb}
 use Rattle.layout.specs.declared.entry.Entry.{Entry}
 use Rattle.layout.specs.Entries.{decoded, needs, blocks_of}
-use Rattle.layout.specs.Files.{has_entry, entry_bytes, entry_at, block, content}
+use Rattle.layout.specs.Files.{has_entries, has_entry, entry_bytes, entry_at, block, content}
 use Rattle.layout.proofs.Finding.{length-entry_bytes, length-block}
 use Rattle.fsck.specs.Rules.{Used, SoundTo}
 
 pub sound_long : (d : List ℕ) (n : ℕ) → SoundTo d n → 576 ≤ length d
 sound_long d n s = omega (arith, s.whole, s.least)
 
+pub sound_has_entries : (d : List ℕ) (n : ℕ) → SoundTo d n → has_entries d ≡ true
+sound_has_entries d n s = le-leb 512 (length d) (omega (arith, sound_long d n s))
+
 pub sound_entry : (d : List ℕ) (n i : ℕ) → SoundTo d n → i < 16 → has_entry d i ≡ true
-sound_entry d n i s lt = and_from _ _ (le-leb 512 (length d) (omega (arith, sound_long d n s))) (lt-ltb i 16 lt)
+sound_entry d n i s lt = and_from _ _ (sound_has_entries d n s) (lt-ltb i 16 lt)
 
 pub length_joined : (f : ℕ → List ℕ) (bs : List ℕ) → ((k : ℕ) → k < length bs → length (f (get_or bs k 0)) ≡ 64) → length (flat_map f bs) ≡ 64 * length bs
 length_joined f [] each = refl

@@ -18,28 +18,15 @@ use layout::entry::Entry;
 fn has_size(disk: &[u8]) -> bool
     ensures { result ≡ size_ok disk.now }
 {
-    if disk.len() % Disk::BLOCK != 0 {
-        return false;
-    }
     let blocks = disk.len() / Disk::BLOCK;
-    if blocks < Disk::LEAST {
-        return false;
-    }
-    blocks <= Disk::MOST
+    disk.len() % Disk::BLOCK == 0 && (Disk::LEAST..=Disk::MOST).contains(&blocks)
 }
 
 // Whether the block is one for files, on the disk, and not taken.
 fn is_fresh(b: u8, size: usize, taken: &BlockSet) -> bool
     ensures { result ≡ block_ok size (member taken.now) b }
 {
-    let block = usize::from(b);
-    if block < Disk::ENTRY_BLOCKS {
-        return false;
-    }
-    if block >= size {
-        return false;
-    }
-    !taken.contains(b)
+    (Disk::ENTRY_BLOCKS..size).contains(&usize::from(b)) && !taken.contains(b)
 }
 
 // Puts the blocks into the set, up to one that is not fresh, if there is one.
@@ -69,10 +56,7 @@ fn is_first(disk: Disk<'_>, entry: &Entry, i: usize) -> bool
     requires { has_entries (held disk) ≡ true }
     ensures { i < 16 → result ≡ (find (held disk.entry) entry.now.name.bytes == i) }
 {
-    match disk.find(&entry.name) {
-        Some(first) => first == i,
-        None => false,
-    }
+    disk.find(&entry.name) == Some(i)
 }
 
 // Whether entry i has no fault against those before it, whose blocks are taken. If it has none, its own blocks are taken too.

@@ -1,5 +1,6 @@
 // A disk that was found sound.
 ghost use Rattle.std.specs.Prelude.{◌≡◌, true, Some, MatchResult};
+ghost use Rattle.layout.specs.Files.{entries};
 ghost use Rattle.fsck.specs.Sound.{sound, first_fault};
 ghost use Rattle.fsck.specs.Faults.{fault_of_place};
 ghost use Rattle.fsck.specs.Blocks.{size};
@@ -8,6 +9,7 @@ ghost use Rattle.std.specs.Option.{option_map};
 use crate::fault::Fault;
 use crate::judge::first_fault;
 use layout::disk::Disk;
+use layout::entry::Entry;
 
 // The bytes of a sound disk. Whoever has one need not judge it again.
 #[derive(Clone, Copy)]
@@ -38,6 +40,13 @@ impl<'a> SoundDisk<'a> {
         ensures { result.bytes ≡ self.now.bytes }
     {
         Disk::new(self.bytes)
+    }
+
+    // All entries in their order.
+    pub fn entries(&self) -> [Entry; Disk::ENTRIES]
+        ensures { result ≡ entries self.now.bytes.now }
+    {
+        self.view().entries().unwrap()
     }
 
     // How many blocks the disk has.

@@ -22,12 +22,11 @@ pub fn blocks_in_use(disk: &[u8]) -> BlockSet
     ensures members { (b : ℕ) → member result b ≡ (has_entries disk.now && in_use disk.now b) }
     ensures counts { Counts disk.now (counted (member result) 0 256) }
 {
-    let view = Disk::new(disk);
     let mut set = BlockSet::new();
-    for i in 0..Disk::ENTRIES {
-        let Some(entry) = view.entry(i) else {
-            continue;
-        };
+    let Some(entries) = Disk::new(disk).entries() else {
+        return set;
+    };
+    for entry in &entries {
         if entry.used {
             insert_all(entry.file_blocks(), &mut set);
         }

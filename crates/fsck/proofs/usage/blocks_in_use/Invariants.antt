@@ -1,8 +1,7 @@
-use Rattle.std.proofs.Common.{◌≡◌, ℕ, ◌&&◌}
-use Rattle.layout.specs.Files.{has_entries}
+use Rattle.std.proofs.Common.{◌≡◌, ℕ}
 use Rattle.fsck.specs.Sets.{member}
 use Rattle.fsck.specs.Blocks.{blocks_to, has}
 use Rattle.fsck.proofs.usage.blocks_in_use.Given as goal
 
-abbrev pub invariant-loop-i : goal.invariant-loop-i
-invariant-loop-i l = (k : ℕ) → member l.set k ≡ (has_entries l.disk && has (blocks_to l.disk l.i) k)
+abbrev pub invariant-loop-entry : goal.invariant-loop-entry
+invariant-loop-entry l = (k : ℕ) → member l.set k ≡ has (blocks_to l.disk l.entry-index) k
