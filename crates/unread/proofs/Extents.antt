@@ -1,18 +1,15 @@
 -- What is read of an entry and of a block, counted entry after entry and block after block. Assumes nothing.
-use Rattle.std.proofs.Common.{Bool, cond, map, add-one, ◌≡◌, ℕ, zero, suc, ◌+◌, ◌-◌, ◌*◌, ◌<◌, ◌≤◌, min, max, true, false, eqb, List, [], ◌∷◌, length, sym, refl, ap, ◌∙◌, ⊎_elim, arith}
+use Rattle.std.proofs.Common.{Bool, cond, map, add-one, ◌≡◌, ℕ, zero, suc, ◌+◌, ◌-◌, ◌*◌, ◌<◌, ◌≤◌, min, max, true, false, eqb, List, [], ◌∷◌, sym, refl, ap, ◌∙◌, ⊎_elim, arith}
 use Rattle.std.specs.List.{range_with_len, fold, filter, position, position_from}
 use Rattle.std.proofs.lemmas.List.FromFn.{filter_of_map_range_with_len_more}
 use Rattle.std.proofs.lemmas.List.Sums.{fold-append}
 use Rattle.std.specs.Option.{option_map_or}
 use Rattle.std.proofs.lemmas.Iterator.Adapters.{position_from-zero}
-use Rattle.std.proofs.lemmas.Bool.{cases_eq, cond-true, cond-false, cond_both, eq-eqb, ne_eqb, le-leb}
+use Rattle.std.proofs.lemmas.Bool.{cases_eq, cond-true, cond-false, cond_both, eq-eqb, ne_eqb}
 use Rattle.layout.specs.declared.entry.Entry.{Entry}
 use Rattle.layout.specs.Entries.{needs, blocks_of}
-use Rattle.layout.specs.Files.{has_entries, entry_at}
-use Rattle.fsck.specs.Sound.{sound}
+use Rattle.layout.specs.Files.{entry_at}
 use Rattle.fsck.specs.Rules.{Sound}
-use Rattle.fsck.proofs.Contents.{sound_long}
-use Rattle.fsck.proofs.Deciding.{sound_to_rules}
 use Rattle.unread.specs.Unread.{read_of_entry, read_by_file, read_of_block}
 
 -- the flag of an entry is read
@@ -86,7 +83,3 @@ most_read_all d b (suc i) =
     ∙ fold-append _ 0 (filter used (map (entry_at d) (range_with_len 0 i))) _
     ∙ last_entry b _ (entry_at d i) (entry_at d i).used
     ∙ ap (λ m. max m (cond (entry_at d i).used (read_by_file b (blocks_of (entry_at d i)) (entry_at d i).len) 0)) (most_read_all d b i)
-
--- a sound disk is long enough to hold its entries
-pub sound_has_entries : (d : List ℕ) → sound d ≡ true → has_entries d ≡ true
-sound_has_entries d ok = le-leb 512 (length d) (omega (arith, sound_long d 16 (sound_to_rules d ok)))

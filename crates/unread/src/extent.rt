@@ -1,7 +1,7 @@
 // How much of an entry and of a block is read: in both the first bytes are, and the rest aren't.
-ghost use Rattle.std.specs.Prelude.{◌≡◌, ℕ, ◌<◌, ◌≤◌, ◌==◌, max, length, nat_le};
+ghost use Rattle.std.specs.Prelude.{◌≡◌, ℕ, ◌<◌, ◌≤◌, ◌==◌, length, nat_le};
 ghost use Rattle.layout.specs.Entries.{blocks_of};
-ghost use Rattle.std.specs.List.{position, fold, filter};
+ghost use Rattle.std.specs.List.{position};
 ghost use Rattle.unread.specs.Unread.{read_of_entry, read_by_file, read_of_block, unread};
 
 use fsck::sound_disk::SoundDisk;
@@ -39,26 +39,16 @@ fn read_by_file(b: u8, entry: &Entry) -> usize
     }
 }
 
-// How many bytes of block b are read for a file of these entries, of those in use.
-fn most_read(entries: &[Entry], b: u8) -> usize
-    ensures { result ≡ fold (λ read e. max read (read_by_file b (blocks_of e) e.len)) 0 (filter (λ e. e.used) entries.now) }
+// How many bytes of block b are read for any file.
+fn read_of_block(disk: SoundDisk<'_>, b: u8) -> usize
+    ensures { result ≡ read_of_block disk.entry.bytes.now b 16 }
 {
-    entries
+    disk.entries()
         .iter()
         .filter(|entry| entry.used)
         .map(|entry| read_by_file(b, entry))
         .max()
         .unwrap_or(0)
-}
-
-// How many bytes of block b are read for any file.
-fn read_of_block(disk: SoundDisk<'_>, b: u8) -> usize
-    ensures { result ≡ read_of_block disk.entry.bytes.now b 16 }
-{
-    match disk.view().entries() {
-        Some(entries) => most_read(&entries, b),
-        None => unreachable(),
-    }
 }
 
 // Of the entry or the block that has the place, the bytes that aren't read: the last of it, or none.
@@ -68,9 +58,10 @@ fn unread_rest(disk: SoundDisk<'_>, place: usize) -> Range<usize>
     ensures unread { (k : ℕ) → place ≤ k → k < result.end → unread disk.entry.bytes.now k ≡ nat_le result.start k }
 {
     let i = place / Disk::ENTRY;
-    if let Some(entry) = disk.view().entry(i) {
+    if i < Disk::ENTRIES {
+        let entries = disk.entries();
         let from = i * Disk::ENTRY;
-        return from + read_of_entry(&entry)..from + Disk::ENTRY;
+        return from + read_of_entry(&entries[i])..from + Disk::ENTRY;
     }
     let b = place / Disk::BLOCK;
     let from = b * Disk::BLOCK;

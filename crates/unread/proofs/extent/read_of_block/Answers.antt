@@ -1,19 +1,23 @@
-use Rattle.std.proofs.Common.{max, List, ap, ◌∙◌}
-use Rattle.std.specs.List.{fold, filter}
-use Rattle.std.proofs.lemmas.Bool.{both_ways}
+use Rattle.std.proofs.Common.{unwrap_or, rules, ap, ◌∙◌}
+use borrow.Author.Tests.{tests}
+use Rattle.std.specs.List.{filter}
+use Rattle.std.proofs.lemmas.Iterator.{YieldsList-from_slice, YieldsList-from_map}
+use Rattle.std.proofs.lemmas.Iterator.Consumers.{YieldsList-at, YieldsList-from_filter, reduce_from_yields_List}
+use Rattle.std.proofs.lemmas.List.Folds.{max_of_map}
 use Rattle.layout.specs.declared.entry.Entry.{Entry}
 use Rattle.layout.specs.Entries.{blocks_of}
-use Rattle.layout.specs.Files.{has_entries, entries}
-use Rattle.layout.proofs.Finding.{none_from_cond, some_from_cond}
+use Rattle.layout.specs.Files.{entries}
 use Rattle.unread.specs.Unread.{read_by_file}
-use Rattle.unread.proofs.Extents.{most_read_all, sound_has_entries}
+use Rattle.unread.proofs.Extents.{most_read_all}
 use Rattle.unread.proofs.extent.read_of_block.Goals as goal
-
-pub unreachable-requires : goal.unreachable-requires
-unreachable-requires c = both_ways _ (none_from_cond _ _ c.in-None.ensures) ((λ j. has_entries (c.view.ensures j).now) ∙ sound_has_entries c.args.disk.bytes.now c.args.disk.sound)
 
 pub returns : goal.returns
 unfolding entries
 returns c =
-    let most = λ (l : List Entry). fold (λ m (e : Entry). max m (read_by_file c.args.b (blocks_of e) e.len)) 0 (filter (λ (e : Entry). e.used) l) in
-    c.most_read.ensures ∙ ap most ((some_from_cond _ _ _ c.in-Some.ensures).1 ∙ (λ j. entries (c.view.ensures j).now)) ∙ most_read_all c.args.disk.bytes.now c.args.b 16
+    let d = c.args.disk.bytes.now in
+    let read = λ (e : Entry). read_by_file c.args.b (blocks_of e) e.len in
+    let used = λ (e : Entry). e.used in
+    c.unwrap_or.ensures ∙ ap (λ o. unwrap_or o 0) (reduce_from_yields_List _ _ _ c.max.ensures.ran
+    (YieldsList-from_map _ read
+    (YieldsList-at c.map.ensures.source (YieldsList-from_filter _ used (YieldsList-from_slice (entries d) cc) c.filter.ensures.closure (λ x r q k. search (rules, tests))))
+    c.map.ensures.closure (λ x r q k. search (rules, tests)))) ∙ max_of_map read (filter used (entries d)) ∙ most_read_all d c.args.b 16
