@@ -42,8 +42,8 @@ const RANGES: [(usize, usize); 19] = [
 fn entry(letter: u8, len: u16, first: u8) -> Entry {
     let mut blocks = [0; Disk::FILE_BLOCKS];
     let mut b = first;
-    for k in 0..Disk::FILE_BLOCKS {
-        blocks[k] = b;
+    for block in &mut blocks {
+        *block = b;
         b = b.saturating_add(1);
     }
     Entry {
@@ -77,12 +77,9 @@ fn disk(heap: Global) -> Result<Vec<u8>, AllocError> {
 #[test]
 fn ranges_of_files_of_all_lengths(rt: HostRuntime) -> Result<(), Fail> {
     let disk = disk(rt.alloc())?;
-    let mut ranges = Vec::new(rt.alloc());
-    if let Ok(runs) = unread_runs(disk.as_slice()) {
-        for run in runs {
-            ranges.push((run.start, run.end))?;
-        }
-    }
+    let ranges: Vec<(usize, usize)> = unread_runs(disk.as_slice())?
+        .map(|run| (run.start, run.end))
+        .collect(rt.alloc())?;
     assert_eq!(rt; ranges.as_slice(), RANGES.as_slice());
     Ok(())
 }
@@ -91,10 +88,9 @@ fn ranges_of_files_of_all_lengths(rt: HostRuntime) -> Result<(), Fail> {
 fn places_one_by_one(rt: HostRuntime) -> Result<(), Fail> {
     let disk = disk(rt.alloc())?;
     for place in 0..disk.len() + 2 {
-        let mut unread = false;
-        for (first, end) in RANGES {
-            unread = unread || first <= place && place < end;
-        }
+        let unread = RANGES
+            .iter()
+            .any(|(first, end)| (*first..*end).contains(&place));
         assert_eq!(rt; is_unread(disk.as_slice(), place), Ok(unread));
     }
     Ok(())

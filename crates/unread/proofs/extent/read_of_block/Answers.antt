@@ -17,7 +17,7 @@ returns c =
     let d = c.args.disk.bytes.now in
     let read = λ (e : Entry). read_by_file c.args.b (blocks_of e) e.len in
     let used = λ (e : Entry). e.used in
-    c.unwrap_or.ensures ∙ ap (λ o. unwrap_or o 0) (reduce_from_yields_List _ _ _ c.max.ensures.ran
+    c.unwrap_or.ensures ∙ ap (λ o. unwrap_or o 0) (reduce_from_yields_List _ c.map.result c.max.result c.max.ensures.ran
     (YieldsList-from_map _ read
     (YieldsList-at c.map.ensures.source (YieldsList-from_filter _ used (YieldsList-from_slice (entries d) cc) c.filter.ensures.closure (λ x r q k. search (rules, tests))))
     c.map.ensures.closure (λ x r q k. search (rules, tests)))) ∙ max_of_map read (filter used (entries d)) ∙ most_read_all d c.args.b 16
