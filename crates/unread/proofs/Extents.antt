@@ -1,9 +1,8 @@
 -- What is read of an entry and of a block, counted entry after entry and block after block. Assumes nothing.
-use Rattle.std.proofs.Common.{Bool, cond, map, add-one, ◌≡◌, ℕ, zero, suc, ◌+◌, ◌-◌, ◌*◌, ◌<◌, ◌≤◌, min, max, true, false, eqb, List, [], ◌∷◌, sym, refl, ap, ◌∙◌, ⊎_elim, arith}
+use Rattle.std.proofs.Common.{◌≡◌, ℕ, zero, suc, ◌+◌, ◌-◌, ◌*◌, ◌<◌, ◌≤◌, min, max, Bool, true, false, cond, eqb, List, [], ◌∷◌, map, Some, None, Option, sym, refl, ap, ◌∙◌, ⊎_elim, add-one, arith}
 use Rattle.std.specs.List.{range_with_len, fold, filter, position, position_from}
 use Rattle.std.proofs.lemmas.List.FromFn.{filter_of_map_range_with_len_more}
 use Rattle.std.proofs.lemmas.List.Sums.{fold-append}
-use Rattle.std.specs.Option.{option_map_or}
 use Rattle.std.proofs.lemmas.Iterator.Adapters.{position_from-zero}
 use Rattle.std.proofs.lemmas.Bool.{cases_eq, cond-true, cond-false, cond_both, eq-eqb, ne_eqb}
 use Rattle.layout.specs.declared.entry.Entry.{Entry}
@@ -41,20 +40,27 @@ read_by_file_within b (x ∷ bs) n =
     let first = cond_both (eqb b x) (min n 64) 0 (λ m. m ≤ min n 64) (λ _. omega arith) (λ _. omega arith) in
     omega (arith, first, read_by_file_within b bs (n - 64))
 
+-- how many of n bytes lie in this place of a file, if there is one
+abbrev pub read_at : ℕ → Option ℕ → ℕ
+read_at n None = 0
+read_at n (Some k) = min (n - k * 64) 64
+
 -- of all places in the file that have the block, the first has the most bytes
-read_by_first : (b : ℕ) (bs : List ℕ) (n i : ℕ) → option_map_or (λ k. min (n - k * 64) 64) (position_from (λ x. eqb x b) i bs) 0 ≡ read_by_file b bs (n - i * 64)
+read_by_first : (b : ℕ) (bs : List ℕ) (n i : ℕ) → read_at n (position_from (λ x. eqb x b) i bs) ≡ read_by_file b bs (n - i * 64)
 unfolding read_by_file
 read_by_first b [] n i = refl
 read_by_first b (x ∷ bs) n i =
-    let rest : read_by_file b bs (n - i * 64 - 64) ≤ min (n - i * 64 - 64) 64 = read_by_file_within b bs (n - i * 64 - 64) in
-    let later : n - (i + 1) * 64 ≡ n - i * 64 - 64 = omega arith in
+    let rest = read_by_file b bs (n - i * 64 - 64) in
+    let less : rest ≤ min (n - i * 64 - 64) 64 = read_by_file_within b bs (n - i * 64 - 64) in
     ⊎_elim
-    (λ same. ap (λ o. option_map_or (λ k. min (n - k * 64) 64) o 0) (cond-true _ _ _ (eq-eqb x b same)) ∙ sym (ap (λ m. max m (read_by_file b bs (n - i * 64 - 64))) (cond-true _ _ _ (eq-eqb b x (sym same))) ∙ omega arith))
-    (λ other. ap (λ o. option_map_or (λ k. min (n - k * 64) 64) o 0) (cond-false _ _ _ (ne_eqb x b other)) ∙ read_by_first b bs n (i + 1) ∙ ap (read_by_file b bs) later ∙ sym (ap (λ m. max m (read_by_file b bs (n - i * 64 - 64))) (cond-false _ _ _ (ne_eqb b x (λ same. other (sym same)))) ∙ omega arith))
+    (λ same. ap (read_at n) (cond-true _ _ _ (eq-eqb x b same)) ∙ sym (ap (λ m. max m rest) (cond-true _ _ _ (eq-eqb b x (sym same))) ∙ omega arith))
+    (λ other.
+    let later : n - (i + 1) * 64 ≡ n - i * 64 - 64 = omega arith in
+    ap (read_at n) (cond-false _ _ _ (ne_eqb x b other)) ∙ read_by_first b bs n (i + 1) ∙ ap (read_by_file b bs) later ∙ sym (ap (λ m. max m rest) (cond-false _ _ _ (ne_eqb b x (λ same. other (sym same)))) ∙ omega arith))
     (cases_eq x b)
 
-pub read_by_position : (b : ℕ) (bs : List ℕ) (n : ℕ) → option_map_or (λ k. min (n - k * 64) 64) (position (λ x. eqb x b) bs) 0 ≡ read_by_file b bs n
-read_by_position b bs n = ap (λ o. option_map_or (λ k. min (n - k * 64) 64) o 0) (position_from-zero (λ x. eqb x b) bs) ∙ read_by_first b bs n 0 ∙ ap (read_by_file b bs) (omega arith)
+pub read_by_position : (b : ℕ) (bs : List ℕ) (n : ℕ) → read_at n (position (λ x. eqb x b) bs) ≡ read_by_file b bs n
+read_by_position b bs n = ap (read_at n) (position_from-zero (λ x. eqb x b) bs) ∙ read_by_first b bs n 0 ∙ ap (read_by_file b bs) (omega arith)
 
 read_by_file_most : (b : ℕ) (bs : List ℕ) (n : ℕ) → read_by_file b bs n ≤ 64
 read_by_file_most b bs n = omega (arith, read_by_file_within b bs n)

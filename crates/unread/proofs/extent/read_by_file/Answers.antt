@@ -1,9 +1,7 @@
-use Rattle.std.proofs.Common.{◌≡◌, ◌-◌, ◌*◌, min, Some, None, eqb, sym, ap, ◌∙◌, arith, length-take}
-use Rattle.std.specs.List.{position}
-use Rattle.std.specs.Option.{option_map_or}
+use Rattle.std.proofs.Common.{◌≡◌, ◌-◌, ◌*◌, min, eqb, sym, ap, ◌∙◌, arith, length-take}
 use Rattle.std.proofs.lemmas.List.Quantifiers.{position-Some}
 use Rattle.layout.specs.Entries.{blocks_of, needs}
-use Rattle.unread.proofs.Extents.{read_by_position}
+use Rattle.unread.proofs.Extents.{read_at, read_by_position}
 use Rattle.unread.proofs.extent.read_by_file.Goals as goal
 
 pub overflow_mul-k : goal.overflow_mul-k
@@ -16,12 +14,10 @@ overflow_mul-k c =
 pub returns-in-Some : goal.returns-in-Some
 returns-in-Some c =
     let e = c.args.entry.now in
-    let found : position (λ x. eqb x c.args.b) (blocks_of e) ≡ Some c.in-Some.k = sym c.place_in_file.ensures ∙ c.in-Some.is in
     let read : c.min.result ≡ min (e.len - c.in-Some.k * 64) 64 = omega arith in
-    read ∙ sym (ap (λ o. option_map_or (λ k. min (e.len - k * 64) 64) o 0) found) ∙ read_by_position c.args.b (blocks_of e) e.len
+    read ∙ ap (read_at e.len) (sym c.in-Some.is ∙ c.place_in_file.ensures) ∙ read_by_position c.args.b (blocks_of e) e.len
 
 pub returns-in-None : goal.returns-in-None
 returns-in-None c =
     let e = c.args.entry.now in
-    let none : position (λ x. eqb x c.args.b) (blocks_of e) ≡ None = sym c.place_in_file.ensures ∙ c.in-None.is in
-    sym (ap (λ o. option_map_or (λ k. min (e.len - k * 64) 64) o 0) none) ∙ read_by_position c.args.b (blocks_of e) e.len
+    ap (read_at e.len) (sym c.in-None.is ∙ c.place_in_file.ensures) ∙ read_by_position c.args.b (blocks_of e) e.len

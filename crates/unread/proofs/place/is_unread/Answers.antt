@@ -1,21 +1,11 @@
-use Rattle.std.proofs.Common.{◌≡◌, ℕ, Bool, true, false, List, length, Bor, Ok, rules, sym, ap, ◌∙◌, arith}
+use Rattle.std.proofs.Common.{◌≡◌, ℕ, Bool, true, false, List, length, Bor, Ok, sym, ap, ◌∙◌, arith}
 use Rattle.fsck.specs.Sound.{sound}
 use Rattle.unread.specs.Unread.{unread}
 use Rattle.unread.specs.Answers.{unless, answered}
 use Rattle.unread.proofs.Reach.{unread_off_disk}
 use Rattle.unread.proofs.Agreeing.{kinds_decide}
-use Rattle.unread.proofs.Completeness.{complete}
-use Rattle.unread.proofs.Refusals.{sound_no_fault, refused_place}
+use Rattle.unread.proofs.Refusals.{sound_no_fault}
 use Rattle.unread.proofs.place.is_unread.Goals as goal
-
-pub returns-in_err-disk-clause-places : goal.returns-in_err-disk-clause-places
-returns-in_err-disk-clause-places c = search (rules, refused_place)
-
-pub returns-in_err-disk-clause-kinds : goal.returns-in_err-disk-clause-kinds
-returns-in_err-disk-clause-kinds c = λ ok. kinds_decide c.args.disk.now ok c.args.place
-
-pub returns-in_err-disk-clause-complete : goal.returns-in_err-disk-clause-complete
-returns-in_err-disk-clause-complete c = complete c.args.disk.now
 
 -- the answer for a sound disk
 answer : (d : List ℕ) (b c : Bool) → sound d ≡ true → b ≡ c → Ok b ≡ answered d c
@@ -28,12 +18,6 @@ returns-then-place-bytes-clause-value c =
     let same = ap (λ (b : Bor (List ℕ)). length b.now) (c.bytes.ensures ∙ here.1) in
     answer d false (unread d c.args.place) here.0 (sym (unread_off_disk d c.args.place (omega (arith, same))))
 
-pub returns-then-place-bytes-clause-kinds : goal.returns-then-place-bytes-clause-kinds
-returns-then-place-bytes-clause-kinds c = λ ok. kinds_decide c.args.disk.now ok c.args.place
-
-pub returns-then-place-bytes-clause-complete : goal.returns-then-place-bytes-clause-complete
-returns-then-place-bytes-clause-complete c = complete c.args.disk.now
-
 pub returns-clause-value : goal.returns-clause-value
 returns-clause-value c =
     let d = c.args.disk.now in
@@ -41,8 +25,11 @@ returns-clause-value c =
     let same = ap (λ (b : Bor (List ℕ)). unread b.now c.args.place) here.1 in
     answer d _ (unread d c.args.place) here.0 (sym (c.at.ensures.alike c.args.place (omega arith) c.at.ensures.behind.0) ∙ same)
 
-pub returns-clause-kinds : goal.returns-clause-kinds
-returns-clause-kinds c = λ ok. kinds_decide c.args.disk.now ok c.args.place
+pub returns-in_err-disk-clause-kinds : goal.returns-in_err-disk-clause-kinds
+returns-in_err-disk-clause-kinds c ok = kinds_decide c.args.disk.now ok c.args.place
 
-pub returns-clause-complete : goal.returns-clause-complete
-returns-clause-complete c = complete c.args.disk.now
+pub returns-then-place-bytes-clause-kinds : goal.returns-then-place-bytes-clause-kinds
+returns-then-place-bytes-clause-kinds c ok = kinds_decide c.args.disk.now ok c.args.place
+
+pub returns-clause-kinds : goal.returns-clause-kinds
+returns-clause-kinds c ok = kinds_decide c.args.disk.now ok c.args.place
