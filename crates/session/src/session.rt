@@ -11,6 +11,7 @@ use crate::answers::{push_answer, push_refused};
 use crate::listing::{push_entry, push_file, push_files, push_map, push_unread};
 use console::command::Command;
 use console::verb::Verb;
+use fsck::fault::Fault;
 use fsck::judge::first_fault;
 use layout::disk::Disk;
 use layout::name::Name;
@@ -102,7 +103,7 @@ impl Session {
         ensures judged { IfNone result (judges (said command.now) ≡ true → sound self.now.disk.items ≡ true) }
     {
         if is_judged(command) {
-            first_fault(self.disk.as_slice())
+            first_fault(self.disk.as_slice()).map(Fault::place)
         } else {
             None
         }

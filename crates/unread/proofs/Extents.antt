@@ -1,11 +1,14 @@
 -- What is read of an entry and of a block, counted entry after entry and block after block. Assumes nothing.
-use Rattle.std.proofs.Common.{◌≡◌, ℕ, zero, suc, ◌+◌, ◌-◌, ◌<◌, ◌≤◌, min, max, true, false, cond, eqb, List, [], ◌∷◌, length, get_or, drop, sym, ap, ◌∙◌, arith}
-use Rattle.std.proofs.lemmas.List.{at_drop_more, drop_all}
-use Rattle.std.proofs.lemmas.Bool.{cond-true, cond-false, cond_both}
+use Rattle.std.proofs.Common.{◌≡◌, ℕ, zero, suc, ◌+◌, ◌-◌, ◌*◌, ◌<◌, ◌≤◌, min, max, Bool, true, false, cond, eqb, List, [], ◌∷◌, map, Some, None, Option, sym, refl, ap, ◌∙◌, ⊎_elim, add-one, arith}
+use Rattle.std.specs.List.{range_with_len, fold, filter, position, position_from}
+use Rattle.std.proofs.lemmas.List.FromFn.{filter_of_map_range_with_len_more}
+use Rattle.std.proofs.lemmas.List.Sums.{fold-append}
+use Rattle.std.proofs.lemmas.Iterator.Adapters.{position_from-zero}
+use Rattle.std.proofs.lemmas.Bool.{cases_eq, cond-true, cond-false, cond_both, eq-eqb, ne_eqb}
 use Rattle.layout.specs.declared.entry.Entry.{Entry}
 use Rattle.layout.specs.Entries.{needs, blocks_of}
 use Rattle.layout.specs.Files.{entry_at}
-use Rattle.fsck.specs.Rules.{Used, Sound}
+use Rattle.fsck.specs.Rules.{Sound}
 use Rattle.unread.specs.Unread.{read_of_entry, read_by_file, read_of_block}
 
 -- the flag of an entry is read
@@ -29,38 +32,38 @@ read_of_entry_most d i s lt = cond_both (entry_at d i).used _ _ (λ n. n ≤ 30)
 max_zero : (n : ℕ) → max n 0 ≡ n
 max_zero n = omega arith
 
-max_assoc : (a b c : ℕ) → max (max a b) c ≡ max a (max b c)
-max_assoc a b c = omega arith
-
--- behind the last block of the file nothing more is read for it
-pub read_by_rest : (b : ℕ) (bs : List ℕ) (k n read : ℕ) → length bs ≤ k → max read (read_by_file b (drop k bs) n) ≡ read
+-- a file has no more bytes in a block than it has in all
+read_by_file_within : (b : ℕ) (bs : List ℕ) (n : ℕ) → read_by_file b bs n ≤ min n 64
 unfolding read_by_file
-read_by_rest b bs k n read le = ap (λ l. max read (read_by_file b l n)) (drop_all k bs le) ∙ max_zero read
+read_by_file_within b [] n = omega arith
+read_by_file_within b (x ∷ bs) n =
+    let first = cond_both (eqb b x) (min n 64) 0 (λ m. m ≤ min n 64) (λ _. omega arith) (λ _. omega arith) in
+    omega (arith, first, read_by_file_within b bs (n - 64))
 
-module _ (b : ℕ) (bs : List ℕ) (k n read : ℕ) (lt : k < length bs) where
-  rest : ℕ
-  rest = read_by_file b (drop (k + 1) bs) (n - 64)
+-- how many of n bytes lie in this place of a file, if there is one
+abbrev pub read_at : ℕ → Option ℕ → ℕ
+read_at n None = 0
+read_at n (Some k) = min (n - k * 64) 64
 
-  step : (m : ℕ) → cond (eqb b (get_or bs k 0)) (min n 64) 0 ≡ m → max (max read m) rest ≡ max read (read_by_file b (drop k bs) n)
-  unfolding read_by_file rest
-  step m is = max_assoc read m rest ∙ ap (λ a. max read (max a rest)) (sym is) ∙ ap (max read) (sym (at_drop_more (λ l. read_by_file b l n) bs k 0 lt))
+-- of all places in the file that have the block, the first has the most bytes
+read_by_first : (b : ℕ) (bs : List ℕ) (n i : ℕ) → read_at n (position_from (λ x. eqb x b) i bs) ≡ read_by_file b bs (n - i * 64)
+unfolding read_by_file
+read_by_first b [] n i = refl
+read_by_first b (x ∷ bs) n i =
+    let rest = read_by_file b bs (n - i * 64 - 64) in
+    let less : rest ≤ min (n - i * 64 - 64) 64 = read_by_file_within b bs (n - i * 64 - 64) in
+    ⊎_elim
+    (λ same. ap (read_at n) (cond-true _ _ _ (eq-eqb x b same)) ∙ sym (ap (λ m. max m rest) (cond-true _ _ _ (eq-eqb b x (sym same))) ∙ omega arith))
+    (λ other.
+    let later : n - (i + 1) * 64 ≡ n - i * 64 - 64 = omega arith in
+    ap (read_at n) (cond-false _ _ _ (ne_eqb x b other)) ∙ read_by_first b bs n (i + 1) ∙ ap (read_by_file b bs) later ∙ sym (ap (λ m. max m rest) (cond-false _ _ _ (ne_eqb b x (λ same. other (sym same)))) ∙ omega arith))
+    (cases_eq x b)
 
-  -- place k of the file has block b
-  pub read_by_file_here : eqb b (get_or bs k 0) ≡ true → max (max read (min n 64)) (read_by_file b (drop (k + 1) bs) (n - 64)) ≡ max read (read_by_file b (drop k bs) n)
-  unfolding rest
-  read_by_file_here is = step (min n 64) (cond-true _ _ _ is)
-
-  -- or another
-  pub read_by_file_past : eqb b (get_or bs k 0) ≡ false → max read (read_by_file b (drop (k + 1) bs) (n - 64)) ≡ max read (read_by_file b (drop k bs) n)
-  unfolding rest
-  read_by_file_past isn't = ap (λ m. max m rest) (sym (max_zero read)) ∙ step 0 (cond-false _ _ _ isn't)
+pub read_by_position : (b : ℕ) (bs : List ℕ) (n : ℕ) → read_at n (position (λ x. eqb x b) bs) ≡ read_by_file b bs n
+read_by_position b bs n = ap (read_at n) (position_from-zero (λ x. eqb x b) bs) ∙ read_by_first b bs n 0 ∙ ap (read_by_file b bs) (omega arith)
 
 read_by_file_most : (b : ℕ) (bs : List ℕ) (n : ℕ) → read_by_file b bs n ≤ 64
-unfolding read_by_file
-read_by_file_most b [] n = omega arith
-read_by_file_most b (x ∷ bs) n =
-    let first = cond_both (eqb b x) (min n 64) 0 (λ m. m ≤ 64) (λ _. omega arith) (λ _. omega arith) in
-    omega (arith, first, read_by_file_most b bs (n - 64))
+read_by_file_most b bs n = omega (arith, read_by_file_within b bs n)
 
 pub read_of_block_most : (d : List ℕ) (b n : ℕ) → read_of_block d b n ≤ 64
 unfolding read_of_block
@@ -69,11 +72,20 @@ read_of_block_most d b (suc i) =
     let file = cond_both (entry_at d i).used _ 0 (λ m. m ≤ 64) (λ _. read_by_file_most b (blocks_of (entry_at d i)) (entry_at d i).len) (λ _. omega arith) in
     omega (arith, file, read_of_block_most d b i)
 
-module _ (d : List ℕ) (b i : ℕ) where
-  pub read_of_block_used : Used d i → read_of_block d b (suc i) ≡ max (read_of_block d b i) (read_by_file b (blocks_of (entry_at d i)) (entry_at d i).len)
-  unfolding read_of_block
-  read_of_block_used is = ap (max (read_of_block d b i)) (cond-true _ _ _ is)
+-- the last of some entries, if it is in use
+last_entry : (b read : ℕ) (e : Entry) (used : Bool) → fold (λ m (f : Entry). max m (read_by_file b (blocks_of f) f.len)) read (cond used (e ∷ []) []) ≡ max read (cond used (read_by_file b (blocks_of e) e.len) 0)
+last_entry b read e true = refl
+last_entry b read e false = sym (max_zero read)
 
-  pub read_of_block_unused : (entry_at d i).used ≡ false → read_of_block d b (suc i) ≡ read_of_block d b i
-  unfolding read_of_block
-  read_of_block_unused isn't = ap (max (read_of_block d b i)) (cond-false _ _ _ isn't) ∙ max_zero _
+-- the same, counted along the list of entries
+pub most_read_all : (d : List ℕ) (b n : ℕ) → fold (λ m (f : Entry). max m (read_by_file b (blocks_of f) f.len)) 0 (filter (λ (f : Entry). f.used) (map (entry_at d) (range_with_len 0 n))) ≡ read_of_block d b n
+unfolding read_of_block
+most_read_all d b zero = refl
+most_read_all d b (suc i) =
+    let most = λ (l : List Entry). fold (λ m (f : Entry). max m (read_by_file b (blocks_of f) f.len)) 0 l in
+    let used = λ (f : Entry). f.used in
+    ap (λ n. most (filter used (map (entry_at d) (range_with_len 0 n)))) (sym (add-one i))
+    ∙ ap most (filter_of_map_range_with_len_more used (entry_at d) 0 i i (omega arith))
+    ∙ fold-append _ 0 (filter used (map (entry_at d) (range_with_len 0 i))) _
+    ∙ last_entry b _ (entry_at d i) (entry_at d i).used
+    ∙ ap (λ m. max m (cond (entry_at d i).used (read_by_file b (blocks_of (entry_at d i)) (entry_at d i).len) 0)) (most_read_all d b i)

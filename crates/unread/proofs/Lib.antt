@@ -1,3 +1,4 @@
+pub mod Refusals
 pub mod Extents
 pub mod Reach
 pub mod ContentBytes

@@ -3,7 +3,7 @@ use Rattle.std.proofs.Common.{◌≡◌, ℕ, ◌<◌, ◌≤◌, Bool, true, fa
 use Rattle.std.proofs.lemmas.Bool.{cases_lt, both_ways, and_from, and_right, le-leb, lt-leb, lt-ltb, le-ltb}
 use Rattle.std.specs.declared.ops.Range.{Range}
 use Rattle.unread.specs.Unread.{unread}
-use Rattle.unread.specs.Runs.{Until, NextRun, Listed, covered}
+use Rattle.unread.specs.Runs.{Until, NextRun, Listed, covered, JustThese}
 use Rattle.unread.proofs.Reach.{unread_off_disk}
 
 -- the end is reached without an unread place
@@ -53,3 +53,6 @@ module _ (p : ℕ → Bool) where
       (λ past. ap (λ b. b || covered rs k) (and_right _ _ (le-ltb k r.end past)) ∙ listed_covers rs r.end listed.1 k past)
       (cases_lt k r.end))
       (cases_lt k r.start)
+
+  pub just_these : JustThese p
+  just_these rs listed k = listed_covers rs 0 listed k (omega arith)

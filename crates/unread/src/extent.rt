@@ -1,12 +1,13 @@
 // How much of an entry and of a block is read: in both the first bytes are, and the rest aren't.
-ghost use Rattle.std.specs.Prelude.{◌≡◌, ℕ, ◌<◌, ◌≤◌, true, length, nat_le};
+ghost use Rattle.std.specs.Prelude.{◌≡◌, ℕ, ◌<◌, ◌≤◌, ◌==◌, length, nat_le};
 ghost use Rattle.layout.specs.Entries.{blocks_of};
-ghost use Rattle.layout.specs.Files.{held, has_entries};
-ghost use Rattle.fsck.specs.Sound.{sound};
+ghost use Rattle.std.specs.List.{position};
 ghost use Rattle.unread.specs.Unread.{read_of_entry, read_by_file, read_of_block, unread};
 
+use fsck::sound_disk::SoundDisk;
 use layout::disk::Disk;
 use layout::entry::Entry;
+use std::ops::Range;
 
 // How many bytes of the entry are read.
 fn read_of_entry(entry: &Entry) -> usize
@@ -19,68 +20,78 @@ fn read_of_entry(entry: &Entry) -> usize
     Entry::BLOCKS_AT + Disk::blocks_needed(usize::from(entry.len))
 }
 
-// How many bytes of block b are read for the entry's file.
+// The first place in the entry's file that has block b.
+fn place_in_file(b: u8, entry: &Entry) -> Option<usize>
+    ensures { result ≡ position (λ x. x == b) (blocks_of entry.now) }
+{
+    entry.file_blocks().iter().position(|x| *x == b)
+}
+
+// How many bytes of block b are read for the entry's file: those that its first place in the file has, since no later one has more.
 fn read_by_file(b: u8, entry: &Entry) -> usize
     ensures { result ≡ read_by_file b (blocks_of entry.now) entry.now.len }
 {
-    let blocks = entry.file_blocks();
-    let mut left = usize::from(entry.len);
-    let mut read: usize = 0;
-    for x in blocks {
-        if *x == b {
-            read = read.max(left.min(Disk::BLOCK));
-        }
-        left = left.saturating_sub(Disk::BLOCK);
+    match place_in_file(b, entry) {
+        Some(k) => usize::from(entry.len)
+            .saturating_sub(k * Disk::BLOCK)
+            .min(Disk::BLOCK),
+        None => 0,
     }
-    read
 }
 
 // How many bytes of block b are read for any file.
-fn read_of_block(disk: Disk<'_>, b: u8) -> usize
-    requires { has_entries (held disk) ≡ true }
-    ensures { result ≡ read_of_block (held disk.entry) b 16 }
+fn read_of_block(disk: SoundDisk<'_>, b: u8) -> usize
+    ensures { result ≡ read_of_block disk.entry.bytes.now b 16 }
 {
-    let mut read: usize = 0;
-    for i in 0..Disk::ENTRIES {
-        let Some(entry) = disk.entry(i) else {
-            continue;
-        };
-        if entry.used {
-            read = read.max(read_by_file(b, &entry));
-        }
-    }
-    read
+    disk.entries()
+        .iter()
+        .filter(|entry| entry.used)
+        .map(|entry| read_by_file(b, entry))
+        .max()
+        .unwrap_or(0)
 }
 
-// The rest of an entry or a block: the places below `unread` are read, those from there to `end` aren't.
-#[derive(Clone, Copy)]
+// Of the entry or the block that has the place, the bytes that aren't read: the last of it, or none.
+fn unread_rest(disk: SoundDisk<'_>, place: usize) -> Range<usize>
+    requires { place < length disk.bytes.now }
+    ensures behind { (place < result.end) × (result.start ≤ result.end) × (result.end ≤ length disk.entry.bytes.now) }
+    ensures unread { (k : ℕ) → place ≤ k → k < result.end → unread disk.entry.bytes.now k ≡ nat_le result.start k }
+{
+    let i = place / Disk::ENTRY;
+    if i < Disk::ENTRIES {
+        let entries = disk.entries();
+        let from = i * Disk::ENTRY;
+        return from + read_of_entry(&entries[i])..from + Disk::ENTRY;
+    }
+    let b = place / Disk::BLOCK;
+    let from = b * Disk::BLOCK;
+    from + read_of_block(disk, b as u8)..from + Disk::BLOCK
+}
+
+// Places of one entry or one block that are all unread, or all read: those from some place on, up to `end`.
+#[derive(Clone, Copy, Debug, PartialEq, Eq)]
 pub(crate) struct Extent {
-    pub(crate) unread: usize,
+    pub(crate) unread: bool,
     pub(crate) end: usize,
 }
 
 impl Extent {
-    // The rest, from the place on, of the entry or the block that has it.
-    pub(crate) fn at(disk: &[u8], place: usize) -> Extent
-        requires sound { sound disk.now ≡ true }
-        requires there { place < length disk.now }
-        ensures behind { (place < result.end) × (result.end ≤ length disk.now) }
-        ensures unread { (k : ℕ) → place ≤ k → k < result.end → unread disk.now k ≡ nat_le result.unread k }
+    // Those from this place on.
+    pub(crate) fn at(disk: SoundDisk<'_>, place: usize) -> Extent
+        requires { place < length disk.bytes.now }
+        ensures behind { (place < result.end) × (result.end ≤ length disk.entry.bytes.now) }
+        ensures alike { (k : ℕ) → place ≤ k → k < result.end → unread disk.entry.bytes.now k ≡ result.unread }
     {
-        let view = Disk::new(disk);
-        let i = place / Disk::ENTRY;
-        if let Some(entry) = view.entry(i) {
-            let from = i * Disk::ENTRY;
+        let rest = unread_rest(disk, place);
+        if place < rest.start {
             return Extent {
-                unread: from + read_of_entry(&entry),
-                end: from + Disk::ENTRY,
+                unread: false,
+                end: rest.start,
             };
         }
-        let b = place / Disk::BLOCK;
-        let from = b * Disk::BLOCK;
         Extent {
-            unread: from + read_of_block(view, b as u8),
-            end: from + Disk::BLOCK,
+            unread: true,
+            end: rest.end,
         }
     }
 }

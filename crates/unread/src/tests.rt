@@ -1,6 +1,7 @@
 // A disk of thirty blocks with files of 0, 1, 64, 100 and 1,024 bytes, and its unread places worked out by hand.
 use crate::place::is_unread;
 use crate::runs::unread_runs;
+use fsck::fault::Fault;
 use layout::disk::Disk;
 use layout::entry::Entry;
 use layout::name::Name;
@@ -41,8 +42,8 @@ const RANGES: [(usize, usize); 19] = [
 fn entry(letter: u8, len: u16, first: u8) -> Entry {
     let mut blocks = [0; Disk::FILE_BLOCKS];
     let mut b = first;
-    for k in 0..Disk::FILE_BLOCKS {
-        blocks[k] = b;
+    for block in &mut blocks {
+        *block = b;
         b = b.saturating_add(1);
     }
     Entry {
@@ -76,12 +77,9 @@ fn disk(heap: Global) -> Result<Vec<u8>, AllocError> {
 #[test]
 fn ranges_of_files_of_all_lengths(rt: HostRuntime) -> Result<(), Fail> {
     let disk = disk(rt.alloc())?;
-    let mut ranges = Vec::new(rt.alloc());
-    if let Ok(runs) = unread_runs(disk.as_slice()) {
-        for run in runs {
-            ranges.push((run.start, run.end))?;
-        }
-    }
+    let ranges: Vec<(usize, usize)> = unread_runs(disk.as_slice())?
+        .map(|run| (run.start, run.end))
+        .collect(rt.alloc())?;
     assert_eq!(rt; ranges.as_slice(), RANGES.as_slice());
     Ok(())
 }
@@ -90,10 +88,9 @@ fn ranges_of_files_of_all_lengths(rt: HostRuntime) -> Result<(), Fail> {
 fn places_one_by_one(rt: HostRuntime) -> Result<(), Fail> {
     let disk = disk(rt.alloc())?;
     for place in 0..disk.len() + 2 {
-        let mut unread = false;
-        for (first, end) in RANGES {
-            unread = unread || first <= place && place < end;
-        }
+        let unread = RANGES
+            .iter()
+            .any(|(first, end)| (*first..*end).contains(&place));
         assert_eq!(rt; is_unread(disk.as_slice(), place), Ok(unread));
     }
     Ok(())
@@ -105,8 +102,8 @@ fn disks_that_are_not_sound(rt: HostRuntime) -> Result<(), Fail> {
     if let Some(flag) = disk.get_mut(3 * Disk::ENTRY) {
         *flag = 2;
     }
-    assert_eq!(rt; is_unread(disk.as_slice(), 0), Err(3));
-    assert_eq!(rt; unread_runs(disk.as_slice()).err(), Some(3));
-    assert_eq!(rt; is_unread(&[], 0), Err(16));
+    assert_eq!(rt; is_unread(disk.as_slice(), 0), Err(Fault::Entry(3)));
+    assert_eq!(rt; unread_runs(disk.as_slice()).err(), Some(Fault::Entry(3)));
+    assert_eq!(rt; is_unread(&[], 0), Err(Fault::Size));
     Ok(())
 }

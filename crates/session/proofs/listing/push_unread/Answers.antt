@@ -1,25 +1,25 @@
 use Rattle.std.proofs.Common.{◌-◌, ◌++◌, Some, vec_items, sym, refl, ap, ◌∙◌, subst}
 use Rattle.std.proofs.lemmas.Bool.{both_ways}
+use Rattle.fsck.specs.Faults.{place}
 use Rattle.fsck.proofs.Judging.{unsound_from_some}
-use Rattle.unread.specs.declared.runs.Runs.{Runs}
 use Rattle.unread.specs.Unread.{unread}
-use Rattle.unread.specs.Runs.{Ready, NextRun}
+use Rattle.unread.specs.Runs.{NextRun}
 use Rattle.console.specs.Shown.{shown_number}
 use Rattle.session.proofs.Ranges.{ListedTo, listed_none, listed_more, listed_all}
 use Rattle.session.proofs.Texts.{pair_behind}
 use Rattle.session.proofs.listing.push_unread.Goals as goal
 
 pub returns-in_default : goal.returns-in_default
-returns-in_default c = absurd (both_ways _ (unsound_from_some c.args.disk.now (Some c.in_default.field-0) (sym c.in_default.ensures.answer) refl) c.requires)
+returns-in_default c = absurd (both_ways _ (unsound_from_some c.args.disk.now (Some (place c.in_default.field-0)) (sym c.in_default.ensures.places) refl) c.requires)
 
 pub loop-run-init : goal.loop-run-init
 loop-run-init c =
     let was = vec_items c.args.out.now in
     let begun = c.into_iter-run-iterator.ensures.into_iter_gives in
     let answer = c.in-Ok.ensures.answer in (
-      subst (λ (s : Runs). Ready s.disk.now s.at) (sym begun) c.in-Ok.ensures.ready,
       tt,
-      (λ j. (begun j).disk.now) ∙ (λ j. (answer.1 j).now),
+      tt,
+      (λ j. (begun j).disk.bytes.now) ∙ (λ j. (answer.1 j).now),
       subst (ListedTo (unread c.args.disk.now) was was) (sym ((λ j. (begun j).at) ∙ answer.2)) (listed_none (unread c.args.disk.now) was),
     )
 
@@ -36,7 +36,7 @@ loop-run-preserved c =
     let next = subst (λ d. NextRun (unread d) at r) inv.2 step.1.0 in
     let last = c.in_ok-push_number-2.ensures.text ∙ ap (λ n. vec_items c.extend_from_slice.new.self ++ shown_number n) c.saturating_sub.ensures in
     let text = c.in_ok-extend_from_slice-2.ensures.items ∙ pair_behind out (shown_number r.start) (shown_number (r.end - 1)) c.in_ok-push_number.ensures.text c.in_ok-extend_from_slice.ensures.items last in
-    ((c.in-Some.ensures.goes.on tt).0, tt, (λ j. (step.0 j).now) ∙ inv.2, subst (ListedTo p was now) (sym step.1.1) (listed_more p was out at inv.3 r now next text))
+    (tt, tt, (λ j. (step.0 j).now) ∙ inv.2, subst (ListedTo p was now) (sym step.1.1) (listed_more p was out at inv.3 r now next text))
 
 pub returns : goal.returns
 returns c =

@@ -1,30 +1,23 @@
-use Rattle.std.proofs.Common.{◌≡◌, ◌+◌, ◌-◌, min, max, true, false, eqb, get_or, drop, sym, ap, ◌∙◌}
-use Rattle.std.proofs.lemmas.Bool.{eq-eqb, ne_eqb}
-use Rattle.unread.specs.Unread.{read_by_file}
-use Rattle.unread.proofs.Extents.{read_by_file_here, read_by_file_past, read_by_rest}
+use Rattle.std.proofs.Common.{◌≡◌, ◌-◌, ◌*◌, min, eqb, sym, ap, ◌∙◌, arith, length-take}
+use Rattle.std.proofs.lemmas.List.Quantifiers.{position-Some}
+use Rattle.layout.specs.Entries.{blocks_of, needs}
+use Rattle.unread.proofs.Extents.{read_at, read_by_position}
 use Rattle.unread.proofs.extent.read_by_file.Goals as goal
-use Rattle.unread.proofs.extent.read_by_file.Goals.{then-x-b, else-x-b}
 
-pub loop-x-preserved : goal.loop-x-preserved
-loop-x-preserved c =
-    let b = c.args.b in
-    let bs = c.file_blocks-blocks.result.now in
-    let k = c.loop-x.x-index in
-    let n = c.loop-x.left in
-    let read = c.loop-x.read in
-    let left : c.saturating_sub-left.result ≡ n - 64 = c.saturating_sub-left.ensures in
-    elim c.if-x-b.branch [
-      | then-x-b w ↦
-          let here : eqb b (get_or bs k 0) ≡ true = eq-eqb b (get_or bs k 0) (sym w.if-x-b.true) in
-          let more : c.if-x-b.read ≡ max read (min n 64) = w.read-is ∙ w.max-read.ensures ∙ ap (max read) w.min.ensures in
-          (λ j. max (more j) (read_by_file b (drop (k + 1) bs) (left j))) ∙ read_by_file_here b bs k n read c.loop-x-test.true here ∙ c.loop-x.invariant
-      | else-x-b w ↦
-          let past : eqb b (get_or bs k 0) ≡ false = ne_eqb b (get_or bs k 0) (λ same. w.if-x-b.false (sym same)) in
-          (λ j. max (w.read-is j) (read_by_file b (drop (k + 1) bs) (left j))) ∙ read_by_file_past b bs k n read c.loop-x-test.true past ∙ c.loop-x.invariant
-    ]
+pub overflow_mul-k : goal.overflow_mul-k
+unfolding blocks_of needs
+overflow_mul-k c =
+    let e = c.args.entry.now in
+    let first = position-Some (λ x. eqb x c.args.b) (blocks_of e) c.in-Some.k 0 (sym c.place_in_file.ensures ∙ c.in-Some.is) in
+    omega (arith, first.0, length-take (needs e.len) e.blocks)
 
-pub returns : goal.returns
-returns c =
-    let b = c.args.b in
-    let bs = c.file_blocks-blocks.result.now in
-    sym (read_by_rest b bs c.loop-x.x-index c.loop-x.left c.loop-x.read c.loop-x-test.false) ∙ c.loop-x.invariant ∙ (λ j. read_by_file b (c.file_blocks-blocks.ensures j) (c.from-left.ensures j))
+pub returns-in-Some : goal.returns-in-Some
+returns-in-Some c =
+    let e = c.args.entry.now in
+    let read : c.min.result ≡ min (e.len - c.in-Some.k * 64) 64 = omega arith in
+    read ∙ ap (read_at e.len) (sym c.in-Some.is ∙ c.place_in_file.ensures) ∙ read_by_position c.args.b (blocks_of e) e.len
+
+pub returns-in-None : goal.returns-in-None
+returns-in-None c =
+    let e = c.args.entry.now in
+    ap (read_at e.len) (sym c.in-None.is ∙ c.place_in_file.ensures) ∙ read_by_position c.args.b (blocks_of e) e.len

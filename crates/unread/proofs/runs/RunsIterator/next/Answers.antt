@@ -1,20 +1,13 @@
-use Rattle.std.proofs.Common.{refl, arith, rules}
-use Rattle.unread.proofs.Stepping.{none_left, run_holds, next_run}
+use Rattle.std.proofs.Common.{length, sym, refl, ◌∙◌}
+use Rattle.unread.proofs.Stepping.{none_left, next_run}
 use Rattle.unread.proofs.runs.RunsIterator.next.Goals as goal
-use Rattle.std.proofs.iter.Next.{firm}
 
-pub returns-then-start-self : goal.returns-then-start-self
-returns-then-start-self c =
+pub returns-then-start-bytes-clause-steps : goal.returns-then-start-bytes-clause-steps
+returns-then-start-bytes-clause-steps c =
     let self = c.args.self.now in
-    record { steps = (refl, none_left self.disk.now self.at c.next_unread-start.result c.next_unread-start.ensures c.if-start-self.true); goes = firm (tt) (λ h. search rules) }
+    (refl, none_left self.disk.bytes.now self.at _ c.next_place-start.ensures (c.if-start-bytes.true ∙ (λ j. length (c.bytes.ensures j).now)))
 
-pub returns : goal.returns
-returns c =
+pub returns-clause-steps : goal.returns-clause-steps
+returns-clause-steps c =
     let self = c.args.self.now in
-    let first = c.next_unread-start.ensures in
-    let past = c.next_read-end.ensures in
-    let holds = run_holds self.disk.now self.at _ _ first c.if-start-self.false past in
-    record {
-      steps = (refl, (next_run self.disk.now self.at _ _ first c.if-start-self.false past, refl));
-      goes = firm ((record { is_sound = c.requires.is_sound; within = past.within }, tt, omega (arith, holds, first.from, past.within))) (λ h. search rules);
-    }
+    (refl, (next_run self.disk.bytes.now self.at _ _ c.next_place-start.ensures (λ end. c.if-start-bytes.false (end ∙ sym (λ j. length (c.bytes.ensures j).now))) c.next_place-end.ensures, refl))
