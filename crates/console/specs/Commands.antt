@@ -3,7 +3,7 @@ use Rattle.std.specs.Prelude.{◌≡◌, ℕ, suc, Bool, true, false, cond, List
 use Rattle.layout.specs.declared.name.Name.{Name}
 use Rattle.update.specs.declared.answer.Refusal.{Refusal}
 use Rattle.update.specs.declared.answer.Refusal.TheVariants.{BadName, Unreadable}
-use Rattle.console.specs.declared.escape.Escape.TheVariants.{Plain}
+use Rattle.console.specs.declared.escape.NameTooLong.{NameTooLong}
 use Rattle.console.specs.declared.verb.Verb.{Verb}
 use Rattle.console.specs.declared.verb.Verb.TheVariants.{Away, Check, Disk, Entry, List as Listing, Map, Power, Put, Read, Unread}
 use Rattle.console.specs.declared.command.Command.{Command}
@@ -11,7 +11,7 @@ use Rattle.console.specs.declared.command.Command.TheVariants as c
 use Rattle.console.specs.Lines.{lines}
 use Rattle.console.specs.Words.{without_return, trimmed, word, behind}
 use Rattle.console.specs.Numbers.{decimal}
-use Rattle.console.specs.Names.{spelled, name_or_length}
+use Rattle.console.specs.Names.{Plain, spelled, name_or_length}
 use Rattle.console.specs.Bytes.{line_bytes}
 use Rattle.console.specs.Verbs.{verb}
 
@@ -56,9 +56,9 @@ abbrev pub verb_of : List ℕ → Option Verb
 verb_of l = verb (word l)
 
 -- the name that the rest of line n spells behind a command's word, or what the line is without one
-abbrev pub name_of_length : Verb → Result Name ℕ → Result Name Said
+abbrev pub name_of_length : Verb → Result Name NameTooLong → Result Name Said
 name_of_length v (Ok x) = Ok x
-name_of_length v (Err len) = Err (bad (Some v) BadName len)
+name_of_length v (Err e) = Err (bad (Some v) BadName e.len)
 
 abbrev pub name_of_spelled : Verb → ℕ → Option (List ℕ) → Result Name Said
 name_of_spelled v n None = Err (bad (Some v) Unreadable n)

@@ -2,9 +2,8 @@
 use Rattle.std.specs.Prelude.{◌≡◌, ℕ, zero, suc, ◌+◌, ◌-◌, ◌/◌, ◌%◌, max, Bool, cond, not, ◌&&◌, List, [], ◌∷◌, ◌++◌, length, take, Some, Ok, ◌==◌, nat_eq, nat_le, nat_lt}
 use Rattle.std.specs.List.{suffix_len}
 use Rattle.layout.specs.Entries.{as_name}
-use Rattle.console.specs.declared.escape.Escape.TheVariants.{Plain}
 use Rattle.console.specs.Words.{trimmed}
-use Rattle.console.specs.Names.{spelled, name_or_length}
+use Rattle.console.specs.Names.{Plain, spelled, name_or_length}
 
 -- the digits of a number in decimal, of which there are at most n
 unfoldable pub digits_to : ℕ → ℕ → List ℕ

@@ -71,7 +71,7 @@ fn parse_name(
     };
     match fill_name(bytes.as_slice()) {
         Ok(name) => Ok(Ok(name)),
-        Err(len) => Ok(Err(Command::Bad(Some(verb), Refusal::BadName, len))),
+        Err(e) => Ok(Err(Command::Bad(Some(verb), Refusal::BadName, e.len))),
     }
 }
 
