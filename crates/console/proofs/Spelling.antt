@@ -1,5 +1,5 @@
 -- A text that is read byte after byte spells what it spells at once. Assumes nothing.
-use Rattle.std.proofs.Common.{◌≡◌, ℕ, List, [], ◌∷◌, ◌++◌, Some, None, Option, sym, refl, ap, ◌∙◌, append_assoc}
+use Rattle.std.proofs.Common.{◌≡◌, ℕ, List, [], ◌++◌, Some, None, Option, sym, refl, ap, append_assoc}
 use Rattle.std.specs.Option.{option_map}
 
 -- of all, these were read, and what is left is read as this

@@ -1,8 +1,7 @@
-use Rattle.std.proofs.Common.{is_some, Some, Ok, Err, vec_items, sym, refl, ap, ◌∷◌, ◌++◌, ◌∙◌, ◌≡◌, subst, ◌+◌}
+use Rattle.std.proofs.Common.{is_some, Some, Ok, vec_items, sym, ap, ◌∷◌, ◌++◌, ◌∙◌, ◌≡◌, subst, ◌+◌}
 use Rattle.std.specs.Option.{option_map}
-use Rattle.std.proofs.lemmas.Slice.{pushed}
 use Rattle.std.proofs.lemmas.Bool.{eqb-true}
-use Rattle.console.specs.Commands.{items_or_line, clean_lines, BodyRead}
+use Rattle.console.specs.Commands.{items_or_line, clean_lines}
 use Rattle.console.proofs.Bodies.{Read, Ended, read_passed, read_line, read_bad, read_behind, ended_empty, ended-verb, all_read}
 use Rattle.console.proofs.script.Script.parse_body.Goals as goal
 use Rattle.console.proofs.script.Script.parse_body.Goals.{else-loop-heap-test, then-loop-heap-test+then-not-is_passed_over+then-is_some}
