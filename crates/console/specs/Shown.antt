@@ -27,6 +27,12 @@ shown_behind k [] = []
 shown_behind k (b ∷ []) = shown_byte b ++ (10 ∷ [])
 shown_behind k (b ∷ c ∷ bs) = shown_byte b ++ cond (nat_lt k 15) (32 ∷ shown_behind (suc k) (c ∷ bs)) (10 ∷ shown_behind 0 (c ∷ bs))
 
+-- those of one line
+unfoldable pub shown_line : List ℕ → List ℕ
+shown_line [] = []
+shown_line (b ∷ []) = shown_byte b ++ (10 ∷ [])
+shown_line (b ∷ c ∷ bs) = shown_byte b ++ (32 ∷ shown_line (c ∷ bs))
+
 unfoldable pub shown_bytes : List ℕ → List ℕ
 shown_bytes bs = shown_behind 0 bs
 

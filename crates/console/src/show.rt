@@ -1,9 +1,9 @@
 // Numbers, bytes and names as they are printed, put behind what is printed before.
-ghost use Rattle.std.specs.Prelude.{◌≡◌, ◌+◌, ◌%◌, ◌<◌, ◌≤◌, ◌||◌, ◌++◌, length, if◌then◌else◌, Some, OnOk, ◌==◌, nat_eq};
+ghost use Rattle.std.specs.Prelude.{◌≡◌, ◌<◌, ◌≤◌, ◌++◌, length, Some, OnOk};
 ghost use Rattle.console.specs.Bytes.{lines_bytes};
 ghost use Rattle.console.specs.Lines.{lines};
 ghost use Rattle.console.specs.Numbers.{decimal};
-ghost use Rattle.console.specs.Shown.{shown_number, hex_digit, shown_byte, shown_bytes, plain, escaped, shown_char, shown_chars, shown_first, shown_length, shown_name, NameBack};
+ghost use Rattle.console.specs.Shown.{shown_number, hex_digit, shown_byte, shown_line, shown_bytes, plain, escaped, shown_char, shown_chars, shown_first, shown_length, shown_name, NameBack};
 
 use crate::escape::RADIX;
 use layout::name::Name;
@@ -12,22 +12,14 @@ use std::alloc::AllocError;
 // How many bytes are printed to a line.
 const LINE: usize = 0x10;
 
-// The number in decimal: twenty digits at most.
+// The number in decimal.
+#[tactic(auto, using(crate::proofs::Digits::shown_printed, crate::proofs::Digits::number_read_back))]
 pub fn push_number(out: &mut Vec<u8>, n: u64) -> Result<(), AllocError>
     ensures text { OnOk result (out.new.items ≡ out.old.items ++ shown_number n) }
     ensures back { decimal (shown_number n) ≡ Some n }
 {
-    let mut digits = [0; 20];
-    let mut from = digits.len();
-    let mut rest = n;
-    while rest > 9 {
-        from -= 1;
-        digits[from] = b'0' + (rest % 10) as u8;
-        rest /= 10;
-    }
-    from -= 1;
-    digits[from] = b'0' + rest as u8;
-    out.extend_from_slice(&digits[from..])
+    let digits = n.to_string(*out.allocator())?;
+    out.extend_from_slice(digits.as_bytes())
 }
 
 // A hexadecimal digit, in lower case.
@@ -45,26 +37,27 @@ fn push_byte(out: &mut Vec<u8>, b: u8) -> Result<(), AllocError>
     out.extend_from_slice(&[hex_digit(b / RADIX), hex_digit(b % RADIX)])
 }
 
-// What stands behind byte i of n bytes: a line feed at the end of a line and of all, else a blank.
-fn gap(i: usize, n: usize) -> u8
-    requires { i < n }
-    ensures { result ≡ (if nat_eq (i % 16) 15 || i + 1 == n then 10 else 32) }
+// One line of bytes: a line feed behind the last, a blank behind each other.
+#[tactic(auto, unfolding(crate::specs::Shown::shown_line))]
+fn push_line(out: &mut Vec<u8>, line: &[u8]) -> Result<(), AllocError>
+    ensures { OnOk result (out.new.items ≡ out.old.items ++ shown_line line.now) }
 {
-    if i % LINE == LINE - 1 || i + 1 == n {
-        b'\n'
-    } else {
-        b' '
+    let mut rest = line;
+    while let [b, behind @ ..] = rest {
+        push_byte(out, *b)?;
+        out.push(if behind.is_empty() { b'\n' } else { b' ' })?;
+        rest = behind;
     }
+    Ok(())
 }
 
-// The bytes, a blank between two, a line feed behind each line.
+// The bytes, line by line.
 pub fn push_bytes(out: &mut Vec<u8>, bytes: &[u8]) -> Result<(), AllocError>
     ensures text { OnOk result (out.new.items ≡ out.old.items ++ shown_bytes bytes.now) }
     ensures back { lines_bytes (lines (shown_bytes bytes.now)) ≡ Some bytes.now }
 {
-    for (i, b) in bytes.iter().enumerate() {
-        push_byte(out, *b)?;
-        out.push(gap(i, bytes.len()))?;
+    for line in bytes.chunks(LINE) {
+        push_line(out, line)?;
     }
     Ok(())
 }
