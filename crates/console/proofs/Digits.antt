@@ -17,9 +17,9 @@ digits_printed zero m some fits small = absurd (omega arith)
 digits_printed (suc k) m some fits small = ⊎_elim
     (λ lt. cond-true (ltb m 10) _ _ (lt-ltb m 10 lt) ∙ sym (decimal_digit m lt))
     (λ ge.
-        cond-false (ltb m 10) _ _ (le-ltb m 10 ge)
-        ∙ ap (λ ds. ds ++ ((48 + m % 10) ∷ [])) (digits_printed k (m / 10) (room_for_more k m fits ge) (omega arith) (omega arith))
-        ∙ sym (decimal_step m ge small))
+    cond-false (ltb m 10) _ _ (le-ltb m 10 ge)
+    ∙ ap (λ ds. ds ++ ((48 + m % 10) ∷ [])) (digits_printed k (m / 10) (room_for_more k m fits ge) (omega arith) (omega arith))
+    ∙ sym (decimal_step m ge small))
     (cases_lt m 10)
 
 pub shown_printed : (n : ℕ) → n < 2 ^ 64 → fmt.decimal n ≡ shown_number n
@@ -29,6 +29,10 @@ shown_printed n small = sym (digits_printed 20 n (omega arith) (omega arith) sma
 pub decimal_of_some : (bs : List ℕ) → (length bs ≡ 0 → ⊥) → more_digits (Some 0) bs ≡ decimal bs
 decimal_of_some [] some = absurd (some refl)
 decimal_of_some (b ∷ bs) some = refl
+
+pub more_none : (bs : List ℕ) → more_digits None bs ≡ None
+more_none [] = refl
+more_none (b ∷ bs) = refl
 
 more_append : (o : Option ℕ) (xs ys : List ℕ) → more_digits o (xs ++ ys) ≡ more_digits (more_digits o xs) ys
 more_append o [] ys = refl

@@ -34,6 +34,7 @@ fn verb_of(line: &[u8]) -> Option<Verb>
 }
 
 // The first line of a text, without what ends it and the blanks around it, and the text behind it.
+#[tactic(auto, using(crate::proofs::LinesRead::clean_lines_first))]
 fn first_line(text: &[u8]) -> (&[u8], &[u8])
     requires { 0 < length text.now }
     ensures lines { clean_lines text.now ≡ result.0.now ∷ clean_lines result.1.now }

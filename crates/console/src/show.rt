@@ -1,5 +1,6 @@
 // Numbers, bytes and names as they are printed, put behind what is printed before.
-ghost use Rattle.std.specs.Prelude.{◌≡◌, ◌<◌, ◌≤◌, ◌++◌, length, Some, OnOk};
+ghost use Rattle.std.specs.Prelude.{◌≡◌, ◌<◌, ◌≤◌, ◌++◌, length, Some, OnOk, nat_eq};
+ghost use Rattle.std.specs.List.{suffix_len};
 ghost use Rattle.console.specs.Bytes.{lines_bytes};
 ghost use Rattle.console.specs.Lines.{lines};
 ghost use Rattle.console.specs.Numbers.{decimal};
@@ -23,6 +24,7 @@ pub fn push_number(out: &mut Vec<u8>, n: u64) -> Result<(), AllocError>
 }
 
 // A hexadecimal digit, in lower case.
+#[tactic(auto, unfolding(crate::specs::Shown::hex_digit))]
 fn hex_digit(n: u8) -> u8
     requires { n < 16 }
     ensures { result ≡ hex_digit n }
@@ -31,6 +33,7 @@ fn hex_digit(n: u8) -> u8
 }
 
 // The byte, as two digits.
+#[tactic(auto, unfolding(crate::specs::Shown::shown_byte))]
 fn push_byte(out: &mut Vec<u8>, b: u8) -> Result<(), AllocError>
     ensures { OnOk result (out.new.items ≡ out.old.items ++ shown_byte b) }
 {
@@ -66,10 +69,11 @@ pub fn push_bytes(out: &mut Vec<u8>, bytes: &[u8]) -> Result<(), AllocError>
 fn is_plain(b: u8) -> bool
     ensures { result ≡ plain b }
 {
-    b >= b' ' && b <= b'~' && b != b'\\'
+    matches!(b, b' '..=b'~') && b != b'\\'
 }
 
 // The byte, as `\xHH`.
+#[tactic(auto, unfolding(crate::specs::Shown::escaped))]
 fn push_escaped(out: &mut Vec<u8>, b: u8) -> Result<(), AllocError>
     ensures { OnOk result (out.new.items ≡ out.old.items ++ escaped b) }
 {
@@ -78,17 +82,20 @@ fn push_escaped(out: &mut Vec<u8>, b: u8) -> Result<(), AllocError>
 }
 
 // One byte of a name.
+#[tactic(auto, unfolding(crate::specs::Shown::shown_char))]
 fn push_char(out: &mut Vec<u8>, b: u8) -> Result<(), AllocError>
     ensures { OnOk result (out.new.items ≡ out.old.items ++ shown_char b) }
 {
-    if !is_plain(b) {
-        return push_escaped(out, b);
+    if is_plain(b) {
+        out.push(b)?;
+        Ok(())
+    } else {
+        push_escaped(out, b)
     }
-    out.push(b)?;
-    Ok(())
 }
 
 // Bytes of a name, one behind the other.
+#[tactic(auto, unfolding(crate::specs::Shown::shown_chars))]
 fn push_chars(out: &mut Vec<u8>, bytes: &[u8]) -> Result<(), AllocError>
     ensures { OnOk result (out.new.items ≡ out.old.items ++ shown_chars bytes.now) }
 {
@@ -99,6 +106,7 @@ fn push_chars(out: &mut Vec<u8>, bytes: &[u8]) -> Result<(), AllocError>
 }
 
 // The first byte of a name.
+#[tactic(auto, unfolding(crate::specs::Shown::shown_first))]
 fn push_first(out: &mut Vec<u8>, b: u8) -> Result<(), AllocError>
     ensures { OnOk result (out.new.items ≡ out.old.items ++ shown_first b) }
 {
@@ -109,18 +117,23 @@ fn push_first(out: &mut Vec<u8>, b: u8) -> Result<(), AllocError>
     }
 }
 
+// How many spaces the name ends with.
+fn spaces_behind(name: &[u8]) -> usize
+    ensures value { result ≡ suffix_len (nat_eq 32) name.now }
+    ensures within { result ≤ length name.now }
+{
+    name.iter().rev().take_while(|b| **b == b' ').count()
+}
+
 // How many bytes of a name are printed.
+#[tactic(auto, unfolding(crate::specs::Shown::shown_length))]
 fn shown_len(name: &[u8]) -> usize
     requires { 0 < length name.now }
     ensures value { result ≡ shown_length name.now }
     ensures some { 0 < result }
     ensures within { result ≤ length name.now }
 {
-    let mut end = name.len();
-    while end > 1 && name[end - 1] == b' ' {
-        end -= 1;
-    }
-    end
+    (name.len() - spaces_behind(name)).max(1)
 }
 
 // The name without the blanks behind it, with `\xHH` for a byte that is not plain text, for a backslash, and for a blank in front.
