@@ -6,5 +6,4 @@ pub mod Endings
 pub mod Printing
 pub mod ReadBack
 pub mod LinesRead
-pub mod Scans
 pub mod Spelling

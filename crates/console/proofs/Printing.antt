@@ -1,52 +1,43 @@
 -- What is printed piece after piece is what is printed at once. Assumes nothing.
-use Rattle.std.proofs.Common.{◌≡◌, ℕ, zero, suc, ◌+◌, ◌-◌, ◌%◌, ◌<◌, ◌≤◌, cond, ◌||◌, eqb, ltb, List, [], ◌∷◌, ◌++◌, length, get_or, take, drop, IfOk, Ok, Err, Result, sym, ap, ◌∙◌, inl, inr, append_assoc, append-nil, arith, length-drop}
-use Rattle.std.proofs.lemmas.List.{at_drop_more, at_drop_all}
-use Rattle.std.proofs.lemmas.Bool.{cases_lt, cond-true, cond-false, or_from, or_left, or_right, lt-ltb, le-ltb, eq-eqb, ne_eqb}
-use Rattle.console.specs.Shown.{shown_byte, shown_behind, shown_char, shown_chars, shown_first, from_first}
+use Rattle.std.proofs.Common.{◌≡◌, ℕ, zero, suc, ◌+◌, ◌-◌, ◌<◌, ◌≤◌, List, [], ◌∷◌, ◌++◌, length, get_or, take, drop, IfOk, Ok, Err, Result, sym, ap, ◌∙◌, inl, inr, append_assoc, append-nil, arith, length-append, min}
+use Rattle.std.proofs.lemmas.List.{at_drop_more, at_drop_all, nil_from_length}
+use Rattle.std.proofs.lemmas.Bool.{cases_lt, cond-true, cond-false, lt-ltb, le-ltb}
+use Rattle.console.specs.Shown.{shown_byte, shown_line, shown_behind, shown_char, shown_chars, shown_first, from_first}
 
 -- one list for another in what is made
 pub made_same : {T E : Type 0} (r : Result T E) (now xs ys : List ℕ) → xs ≡ ys → IfOk r (λ _. now ≡ xs) → IfOk r (λ _. now ≡ ys)
 made_same (Ok x) now xs ys same is = is ∙ same
 made_same (Err e) now xs ys same is = tt
 
--- what stands behind byte i of n
-abbrev pub gap : ℕ → ℕ → ℕ
-gap i n = cond (eqb (i % 16) 15 || eqb (i + 1) n) 10 32
-
--- before the last byte, a line feed ends a line and a blank does not
-line_or_blank : (i n : ℕ) (rest : List ℕ) → i + 1 < n
-    → cond (ltb (i % 16) 15) (32 ∷ shown_behind (suc (i % 16)) rest) (10 ∷ shown_behind 0 rest) ≡ gap i n ∷ shown_behind ((i + 1) % 16) rest
-line_or_blank i n rest more = elim (cases_lt (i % 16) 15) [
-  | inl lt ↦
-      let next : suc (i % 16) ≡ (i + 1) % 16 = omega arith in
-      let blank : 32 ≡ gap i n = sym (cond-false _ 10 32 (or_from _ _ (ne_eqb (i % 16) 15 (λ e. omega arith)) (ne_eqb (i + 1) n (λ e. omega arith)))) in
-      cond-true _ _ _ (lt-ltb _ 15 lt) ∙ (λ j. blank j ∷ shown_behind (next j) rest)
-  | inr ge ↦
-      let next : 0 ≡ (i + 1) % 16 = omega arith in
-      let feed : 10 ≡ gap i n = sym (cond-true _ 10 32 (or_left _ _ (eq-eqb (i % 16) 15 (omega arith)))) in
-      cond-false _ _ _ (le-ltb _ 15 ge) ∙ (λ j. feed j ∷ shown_behind (next j) rest)
+-- a line of bytes, and the others behind it
+line_and_others : (k : ℕ) (line rest : List ℕ) → 0 < length line → k + length line ≤ 16 → (k + length line < 16 → rest ≡ []) → shown_behind k (line ++ rest) ≡ shown_line line ++ shown_behind 0 rest
+unfolding shown_behind shown_line
+line_and_others k [] rest some fits last = absurd (omega arith)
+line_and_others k (b ∷ []) [] some fits last = sym (append-nil (shown_byte b ++ (10 ∷ [])))
+line_and_others k (b ∷ []) (c ∷ rest) some fits last = elim (cases_lt k 15) [
+  | inl lt ↦ absurd (omega (arith, ap length (last (omega arith))))
+  | inr ge ↦ ap (λ l. shown_byte b ++ l) (cond-false _ _ _ (le-ltb k 15 ge)) ∙ sym (append_assoc (shown_byte b) (10 ∷ []) (shown_behind 0 (c ∷ rest)))
 ]
+line_and_others k (b ∷ c ∷ line) rest some fits last =
+    let next = line_and_others (suc k) (c ∷ line) rest (omega arith) (omega arith) (λ lt. last (omega arith)) in
+    ap (λ l. shown_byte b ++ l) (cond-true _ _ _ (lt-ltb k 15 (omega arith)) ∙ ap (λ l. 32 ∷ l) next)
+    ∙ sym (append_assoc (shown_byte b) (32 ∷ shown_line (c ∷ line)) (shown_behind 0 rest))
 
--- a byte, the gap behind it and the bytes behind that
-one_shown : (i n b : ℕ) (rest : List ℕ) → i + 1 + length rest ≡ n → shown_behind (i % 16) (b ∷ rest) ≡ shown_byte b ++ (gap i n ∷ shown_behind ((i + 1) % 16) rest)
-unfolding shown_behind
-one_shown i n b [] all = ap (λ g. shown_byte b ++ (g ∷ [])) (sym (cond-true _ 10 32 (or_right _ _ (eq-eqb (i + 1) n (omega arith)))))
-one_shown i n b (c ∷ rest) all = ap (λ l. shown_byte b ++ l) (line_or_blank i n (c ∷ rest) (omega arith))
+-- of all bytes, those in front are printed, and these are left
+abbrev pub ShownTo : List ℕ → List ℕ → List ℕ → List ℕ → Type 0
+ShownTo before bytes out left = out ++ shown_behind 0 left ≡ before ++ shown_behind 0 bytes
 
--- i bytes of all are printed
-abbrev pub ShownTo : List ℕ → List ℕ → List ℕ → ℕ → Type 0
-ShownTo before bytes out i = out ++ shown_behind (i % 16) (drop i bytes) ≡ before ++ shown_behind 0 bytes
+module _ (before bytes out left : List ℕ) (so_far : ShownTo before bytes out left) where
+  pub line_shown : (size : ℕ) (line rest now : List ℕ) → size ≡ 16 → left ≡ line ++ rest → length line ≡ min size (length left) → 0 < length left → now ≡ out ++ shown_line line → ShownTo before bytes now rest
+  line_shown size line rest now sixteen parts is some now-is =
+      let all = ap length parts ∙ length-append line rest in
+      let last : 0 + length line < 16 → rest ≡ [] = λ lt. nil_from_length rest (omega arith) in
+      let step = ap (shown_behind 0) parts ∙ line_and_others 0 line rest (omega arith) (omega arith) last in
+      rw now-is (simp append_assoc (ap (λ l. out ++ l) (sym step) ∙ so_far))
 
-module _ (before bytes out : List ℕ) (i : ℕ) (so_far : ShownTo before bytes out i) where
-  pub shown_more : (g : ℕ) (now : List ℕ) → i < length bytes → g ≡ gap i (length bytes) → now ≡ (out ++ shown_byte (get_or bytes i 0)) ++ (g ∷ []) → ShownTo before bytes now (i + 1)
-  shown_more g now lt g-is now-is =
-      let left : i + 1 + length (drop (i + 1) bytes) ≡ length bytes = omega (arith, length-drop (i + 1) bytes) in
-      let step = at_drop_more (shown_behind (i % 16)) bytes i 0 lt ∙ one_shown i (length bytes) (get_or bytes i 0) (drop (i + 1) bytes) left in
-      rw (now-is, g-is) (simp append_assoc (ap (λ l. out ++ l) (sym step) ∙ so_far))
-
-  pub shown_all : length bytes ≤ i → out ≡ before ++ shown_behind 0 bytes
+  pub shown_all : length left ≡ 0 → out ≡ before ++ shown_behind 0 bytes
   unfolding shown_behind
-  shown_all ge = sym (append-nil out) ∙ ap (λ l. out ++ l) (sym (at_drop_all (shown_behind (i % 16)) bytes i ge)) ∙ so_far
+  shown_all none = sym (append-nil out) ∙ ap (λ l. out ++ shown_behind 0 l) (sym (nil_from_length left none)) ∙ so_far
 
 -- i bytes of a name are printed
 abbrev pub CharsTo : List ℕ → List ℕ → List ℕ → ℕ → Type 0

@@ -8,9 +8,8 @@ use Rattle.std.proofs.lemmas.List.{take_all, take_more, length-take-le}
 use Rattle.std.proofs.lemmas.Bool.{cond-true, cond-false, cond_both, le-leb, eqb-false, ne_eqb, or_from}
 use Rattle.std.proofs.lemmas.Bool.Decides.{nat_tests}
 use Rattle.layout.specs.Entries.{as_name}
-use Rattle.console.specs.declared.escape.Escape.TheVariants.{Plain, Slash, Low}
 use Rattle.console.specs.Words.{blank, from_ink, to_ink, trimmed}
-use Rattle.console.specs.Names.{hex, onward, spelled, name_or_length}
+use Rattle.console.specs.Names.{hex, Plain, Slash, Low, onward, spelled, name_or_length}
 use Rattle.console.specs.Lines.{before_first, lines}
 use Rattle.console.specs.Bytes.{two_digits, in_front, line_bytes, all_in_front, lines_bytes}
 use Rattle.console.specs.Shown.{hex_digit, shown_byte, shown_behind, shown_bytes, plain, escaped, shown_char, shown_chars, shown_first, from_first, shown_length, shown_name, NameBack}
@@ -205,7 +204,7 @@ module _ (x : List ℕ) (eleven : length x ≡ 11) where
       let n = shown_length x in
       let short : length (take n x) ≡ n = length-take-le n x shown_within in
       let left : 11 - length (take n x) ≡ length x - n = omega arith in
-      cond-true _ _ (Err (length (take n x))) (le-leb _ 11 (omega (arith, shown_within)))
+      cond-true _ _ (Err (record { len = length (take n x) })) (le-leb _ 11 (omega (arith, shown_within)))
       ∙ ap (λ l. Ok (as_name l)) (ap (λ m. take n x ++ replicate m 32) left ∙ filled_up 32 x n shown_within blanks_left)
 
   pub name_read_back : ((k : ℕ) → get_or x k 0 < 256) → NameBack x

@@ -3,15 +3,16 @@ use Rattle.std.specs.Prelude.{◌≡◌, ℕ, suc, Bool, true, false, cond, List
 use Rattle.layout.specs.declared.name.Name.{Name}
 use Rattle.update.specs.declared.answer.Refusal.{Refusal}
 use Rattle.update.specs.declared.answer.Refusal.TheVariants.{BadName, Unreadable}
-use Rattle.console.specs.declared.escape.Escape.TheVariants.{Plain}
+use Rattle.console.specs.declared.escape.NameTooLong.{NameTooLong}
 use Rattle.console.specs.declared.verb.Verb.{Verb}
 use Rattle.console.specs.declared.verb.Verb.TheVariants.{Away, Check, Disk, Entry, List as Listing, Map, Power, Put, Read, Unread}
 use Rattle.console.specs.declared.command.Command.{Command}
 use Rattle.console.specs.declared.command.Command.TheVariants as c
+use Rattle.console.specs.declared.line.Unreadable as u
 use Rattle.console.specs.Lines.{lines}
 use Rattle.console.specs.Words.{without_return, trimmed, word, behind}
 use Rattle.console.specs.Numbers.{decimal}
-use Rattle.console.specs.Names.{spelled, name_or_length}
+use Rattle.console.specs.Names.{Plain, spelled, name_or_length}
 use Rattle.console.specs.Bytes.{line_bytes}
 use Rattle.console.specs.Verbs.{verb}
 
@@ -56,9 +57,9 @@ abbrev pub verb_of : List ℕ → Option Verb
 verb_of l = verb (word l)
 
 -- the name that the rest of line n spells behind a command's word, or what the line is without one
-abbrev pub name_of_length : Verb → Result Name ℕ → Result Name Said
+abbrev pub name_of_length : Verb → Result Name NameTooLong → Result Name Said
 name_of_length v (Ok x) = Ok x
-name_of_length v (Err len) = Err (bad (Some v) BadName len)
+name_of_length v (Err e) = Err (bad (Some v) BadName e.len)
 
 abbrev pub name_of_spelled : Verb → ℕ → Option (List ℕ) → Result Name Said
 name_of_spelled v n None = Err (bad (Some v) Unreadable n)
@@ -68,20 +69,15 @@ abbrev pub name_of : Verb → ℕ → List ℕ → Result Name Said
 name_of v n [] = Err (bad (Some v) Unreadable n)
 name_of v n (b ∷ bs) = name_of_spelled v n (spelled Plain (b ∷ bs))
 
--- what was read of it, in code
-abbrev pub name_said : Result Name Command → Result Name Said
-name_said (Ok x) = Ok x
-name_said (Err c) = Err (said c)
-
 -- a command on a name
 abbrev pub named : (Name → Said) → Result Name Said → Said
 named f (Ok x) = f x
 named f (Err s) = s
 
 -- the bytes of a body that was read
-abbrev pub items_or_line : {V : Type 0} → (V → List ℕ) → Result V ℕ → Result (List ℕ) ℕ
+abbrev pub items_or_line : {V : Type 0} → (V → List ℕ) → Result V u.Unreadable → Result (List ℕ) ℕ
 items_or_line items (Ok v) = Ok (items v)
-items_or_line items (Err n) = Err n
+items_or_line items (Err e) = Err e.line
 
 -- a command on a number, and one that is alone on its line
 abbrev pub numbered : Verb → (ℕ → Said) → ℕ → Option ℕ → Said

@@ -6,3 +6,4 @@ pub mod Lines
 pub mod Bytes
 pub mod Shown
 pub mod Commands
+pub mod Parsed

@@ -1,10 +1,10 @@
 -- Names in the command text. Assumes nothing.
-use Rattle.std.specs.Prelude.{ℕ, ◌+◌, ◌-◌, ◌*◌, ◌<◌, Bool, cond, ◌&&◌, List, [], ◌∷◌, ◌++◌, length, replicate, Some, None, Ok, Err, Option, Result, ◌==◌, nat_le}
+use Rattle.std.specs.Prelude.{ℕ, ◌+◌, ◌-◌, ◌*◌, Bool, cond, ◌&&◌, List, [], ◌∷◌, ◌++◌, length, replicate, Some, None, Ok, Err, Option, Result, ◌==◌, nat_le}
+use Rattle.std.specs.Borrow.{Bor}
 use Rattle.std.specs.Option.{option_map, option_to_list}
 use Rattle.layout.specs.declared.name.Name.{Name}
 use Rattle.layout.specs.Entries.{as_name}
-use Rattle.console.specs.declared.escape.Escape.{Escape}
-use Rattle.console.specs.declared.escape.Escape.TheVariants.{Plain, Slash, High, Low}
+use Rattle.console.specs.declared.escape.NameTooLong.{NameTooLong}
 
 abbrev pub within : ℕ → ℕ → ℕ → Bool
 within low b high = nat_le low b && nat_le b high
@@ -13,12 +13,12 @@ within low b high = nat_le low b && nat_le b high
 abbrev pub hex : ℕ → Option ℕ
 hex b = cond (within 48 b 57) (Some (b - 48)) (cond (within 97 b 102) (Some (b - 97 + 10)) (cond (within 65 b 70) (Some (b - 65 + 10)) None))
 
--- a digit that was read is below sixteen
-abbrev pub Begun : Escape → Type 0
-Begun Plain = Unit {0}
-Begun Slash = Unit {0}
-Begun High = Unit {0}
-Begun (Low h) = h < 16
+-- what was read of an escape: nothing, a backslash, `\x`, or `\xH` with the value of its digit
+pub data Escape : Type 0 where
+  Plain : Escape
+  Slash : Escape
+  High : Escape
+  Low : ℕ → Escape
 
 -- one byte of the text: what was then read of an escape, and the byte that was spelled, if one was
 abbrev pub step : Escape → ℕ → Option (Escape × Option ℕ)
@@ -43,6 +43,11 @@ unfoldable pub spelled : Escape → List ℕ → Option (List ℕ)
 spelled s [] = ended s
 spelled s (b ∷ bs) = onward (λ t. spelled t bs) (step s b)
 
+-- the byte that a text spells first, with what the text behind it spells
+abbrev pub first_spelled : Option (ℕ × Bor (List ℕ)) → Option (List ℕ)
+first_spelled None = None
+first_spelled (Some p) = option_map (λ bs. p.0 ∷ bs) (spelled Plain p.1.now)
+
 -- the name of the bytes, filled up with blanks to eleven; or their number, where they are more
-abbrev pub name_or_length : List ℕ → Result Name ℕ
-name_or_length bs = cond (nat_le (length bs) 11) (Ok (as_name (bs ++ replicate (11 - length bs) 32))) (Err (length bs))
+abbrev pub name_or_length : List ℕ → Result Name NameTooLong
+name_or_length bs = cond (nat_le (length bs) 11) (Ok (as_name (bs ++ replicate (11 - length bs) 32))) (Err (record { len = length bs }))

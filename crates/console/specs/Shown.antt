@@ -2,9 +2,8 @@
 use Rattle.std.specs.Prelude.{◌≡◌, ℕ, zero, suc, ◌+◌, ◌-◌, ◌/◌, ◌%◌, max, Bool, cond, not, ◌&&◌, List, [], ◌∷◌, ◌++◌, length, take, Some, Ok, ◌==◌, nat_eq, nat_le, nat_lt}
 use Rattle.std.specs.List.{suffix_len}
 use Rattle.layout.specs.Entries.{as_name}
-use Rattle.console.specs.declared.escape.Escape.TheVariants.{Plain}
 use Rattle.console.specs.Words.{trimmed}
-use Rattle.console.specs.Names.{spelled, name_or_length}
+use Rattle.console.specs.Names.{Plain, spelled, name_or_length}
 
 -- the digits of a number in decimal, of which there are at most n
 unfoldable pub digits_to : ℕ → ℕ → List ℕ
@@ -27,6 +26,12 @@ unfoldable pub shown_behind : ℕ → List ℕ → List ℕ
 shown_behind k [] = []
 shown_behind k (b ∷ []) = shown_byte b ++ (10 ∷ [])
 shown_behind k (b ∷ c ∷ bs) = shown_byte b ++ cond (nat_lt k 15) (32 ∷ shown_behind (suc k) (c ∷ bs)) (10 ∷ shown_behind 0 (c ∷ bs))
+
+-- those of one line
+unfoldable pub shown_line : List ℕ → List ℕ
+shown_line [] = []
+shown_line (b ∷ []) = shown_byte b ++ (10 ∷ [])
+shown_line (b ∷ c ∷ bs) = shown_byte b ++ (32 ∷ shown_line (c ∷ bs))
 
 unfoldable pub shown_bytes : List ℕ → List ℕ
 shown_bytes bs = shown_behind 0 bs

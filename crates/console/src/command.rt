@@ -6,7 +6,10 @@ use update::answer::Refusal;
 #[derive(Drop)]
 pub enum Command {
     // A new disk of so many blocks, asked for on this line.
-    Disk(u64, usize),
+    Disk {
+        blocks: u64,
+        line: usize,
+    },
     // The next request that writes has power for so many writes.
     Power(u64),
     Put(Name, Vec<u8>),
@@ -18,5 +21,9 @@ pub enum Command {
     Unread,
     Map,
     // A line that can't be obeyed: the command that it begins with, if it begins with one, why, and at which place.
-    Bad(Option<Verb>, Refusal, usize),
+    Bad {
+        verb: Option<Verb>,
+        why: Refusal,
+        place: usize,
+    },
 }

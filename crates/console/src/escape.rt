@@ -1,26 +1,14 @@
 // Names in the command text: `\xHH` spells any byte, `\\` a backslash, and any other byte itself.
-ghost use Rattle.std.specs.Prelude.{◌≡◌, IfSome, IfOk, vec_items};
+ghost use Rattle.std.specs.Prelude.{◌≡◌, ◌<◌, length, IfSome, IfOk, vec_items};
 ghost use Rattle.std.specs.Option.{option_map};
-ghost use Rattle.console.specs.Names.{hex, Begun, step, spelled, name_or_length};
-ghost use Rattle.console.specs.declared.escape.Escape.TheVariants.{Plain};
+ghost use Rattle.console.specs.Names.{hex, Plain, first_spelled, spelled, name_or_length};
+ghost use Rattle.console.specs.Bytes.{two_digits};
 
 use layout::name::Name;
 use std::alloc::{AllocError, Global};
 
 // The base of hexadecimal digits.
 pub(crate) const RADIX: u8 = 0x10;
-
-// What was read of an escape.
-#[derive(Clone, Copy)]
-pub enum Escape {
-    Plain,
-    // a backslash
-    Slash,
-    // `\x`
-    High,
-    // `\xH`, with the value of its digit
-    Low(u8),
-}
 
 // The value of a hexadecimal digit, of either case.
 pub fn hex_value(b: u8) -> Option<u8>
@@ -34,58 +22,62 @@ pub fn hex_value(b: u8) -> Option<u8>
     }
 }
 
-// One byte more: what was then read of an escape, and the byte that was spelled, if one was.
-fn read_byte(before: Escape, b: u8) -> Option<(Escape, Option<u8>)>
-    requires { Begun before }
-    ensures value { result ≡ step before b }
-    ensures begun { IfSome result (λ p. Begun p.0) }
+// The byte of two digits, if both are.
+pub(crate) fn parse_byte(high: u8, low: u8) -> Option<u8>
+    ensures { result ≡ two_digits (hex high) (hex low) }
 {
-    match before {
-        Escape::Plain if b == b'\\' => Some((Escape::Slash, None)),
-        Escape::Plain => Some((Escape::Plain, Some(b))),
-        Escape::Slash if b == b'\\' => Some((Escape::Plain, Some(b))),
-        Escape::Slash if b == b'x' => Some((Escape::High, None)),
-        Escape::Slash => None,
-        Escape::High => {
-            let digit = hex_value(b)?;
-            Some((Escape::Low(digit), None))
-        }
-        Escape::Low(high) => {
-            let digit = hex_value(b)?;
-            Some((Escape::Plain, Some(high * RADIX + digit)))
-        }
+    let high = hex_value(high)?;
+    let low = hex_value(low)?;
+    Some(high * RADIX + low)
+}
+
+// The byte that a text spells first, and the text behind it.
+#[tactic(auto, unfolding(crate::specs::Names::spelled))]
+fn read_byte(text: &[u8]) -> Option<(u8, &[u8])>
+    requires { 0 < length text.now }
+    ensures value { first_spelled result ≡ spelled Plain text.now }
+    ensures shorter { IfSome result (λ p. length p.1.now < length text.now) }
+{
+    match text {
+        [b'\\', b'\\', behind @ ..] => Some((b'\\', behind)),
+        [b'\\', b'x', high, low, behind @ ..] => Some((parse_byte(*high, *low)?, behind)),
+        [b, behind @ ..] if *b != b'\\' => Some((*b, behind)),
+        _ => None,
     }
 }
 
 // The bytes that the text spells, or none where an escape in it can't be read.
+#[tactic(auto, unfolding(crate::specs::Names::spelled))]
 pub fn unescape(heap: Global, text: &[u8]) -> Result<Option<Vec<u8>>, AllocError>
     ensures { IfOk result (λ o. option_map vec_items o ≡ spelled Plain text.now) }
 {
     let mut bytes = Vec::new(heap);
-    let mut state = Escape::Plain;
-    for b in text {
-        let Some((next, spelled)) = read_byte(state, *b) else {
+    let mut rest = text;
+    while !rest.is_empty() {
+        let Some((byte, behind)) = read_byte(rest) else {
             return Ok(None);
         };
-        state = next;
-        if let Some(byte) = spelled {
-            bytes.push(byte)?;
-        }
+        bytes.push(byte)?;
+        rest = behind;
     }
-    match state {
-        Escape::Plain => Ok(Some(bytes)),
-        _ => Ok(None),
-    }
+    Ok(Some(bytes))
 }
 
-// The name of the bytes, filled up with blanks; or their number, where they are too many.
-pub fn fill_name(bytes: &[u8]) -> Result<Name, usize>
+// More bytes than a name has.
+#[derive(Clone, Copy, Debug, PartialEq, Eq)]
+pub struct NameTooLong {
+    pub len: usize,
+}
+
+// The name of the bytes, filled up with blanks, where they are not too many.
+pub fn fill_name(bytes: &[u8]) -> Result<Name, NameTooLong>
     ensures { result ≡ name_or_length bytes.now }
 {
-    if bytes.len() > Name::SIZE {
-        return Err(bytes.len());
+    let len = bytes.len();
+    if len > Name::SIZE {
+        return Err(NameTooLong { len });
     }
     let mut own = [b' '; Name::SIZE];
-    own[0..bytes.len()].copy_from_slice(bytes);
+    own[..len].copy_from_slice(bytes);
     Ok(Name { bytes: own })
 }

@@ -4,6 +4,7 @@
 pub mod bytes;
 pub mod command;
 pub mod escape;
+mod line;
 pub mod number;
 pub mod script;
 pub mod show;

@@ -1,9 +1,10 @@
 // Numbers, bytes and names as they are printed, put behind what is printed before.
-ghost use Rattle.std.specs.Prelude.{◌≡◌, ◌+◌, ◌%◌, ◌<◌, ◌≤◌, ◌||◌, ◌++◌, length, if◌then◌else◌, Some, OnOk, ◌==◌, nat_eq};
+ghost use Rattle.std.specs.Prelude.{◌≡◌, ◌<◌, ◌≤◌, ◌++◌, length, Some, OnOk, nat_eq};
+ghost use Rattle.std.specs.List.{suffix_len};
 ghost use Rattle.console.specs.Bytes.{lines_bytes};
 ghost use Rattle.console.specs.Lines.{lines};
 ghost use Rattle.console.specs.Numbers.{decimal};
-ghost use Rattle.console.specs.Shown.{shown_number, hex_digit, shown_byte, shown_bytes, plain, escaped, shown_char, shown_chars, shown_first, shown_length, shown_name, NameBack};
+ghost use Rattle.console.specs.Shown.{shown_number, hex_digit, shown_byte, shown_line, shown_bytes, plain, escaped, shown_char, shown_chars, shown_first, shown_length, shown_name, NameBack};
 
 use crate::escape::RADIX;
 use layout::name::Name;
@@ -12,25 +13,18 @@ use std::alloc::AllocError;
 // How many bytes are printed to a line.
 const LINE: usize = 0x10;
 
-// The number in decimal: twenty digits at most.
+// The number in decimal.
+#[tactic(auto, using(crate::proofs::Digits::shown_printed, crate::proofs::Digits::number_read_back))]
 pub fn push_number(out: &mut Vec<u8>, n: u64) -> Result<(), AllocError>
     ensures text { OnOk result (out.new.items ≡ out.old.items ++ shown_number n) }
     ensures back { decimal (shown_number n) ≡ Some n }
 {
-    let mut digits = [0; 20];
-    let mut from = digits.len();
-    let mut rest = n;
-    while rest > 9 {
-        from -= 1;
-        digits[from] = b'0' + (rest % 10) as u8;
-        rest /= 10;
-    }
-    from -= 1;
-    digits[from] = b'0' + rest as u8;
-    out.extend_from_slice(&digits[from..])
+    let digits = n.to_string(*out.allocator())?;
+    out.extend_from_slice(digits.as_bytes())
 }
 
 // A hexadecimal digit, in lower case.
+#[tactic(auto, unfolding(crate::specs::Shown::hex_digit))]
 fn hex_digit(n: u8) -> u8
     requires { n < 16 }
     ensures { result ≡ hex_digit n }
@@ -39,32 +33,34 @@ fn hex_digit(n: u8) -> u8
 }
 
 // The byte, as two digits.
+#[tactic(auto, unfolding(crate::specs::Shown::shown_byte))]
 fn push_byte(out: &mut Vec<u8>, b: u8) -> Result<(), AllocError>
     ensures { OnOk result (out.new.items ≡ out.old.items ++ shown_byte b) }
 {
     out.extend_from_slice(&[hex_digit(b / RADIX), hex_digit(b % RADIX)])
 }
 
-// What stands behind byte i of n bytes: a line feed at the end of a line and of all, else a blank.
-fn gap(i: usize, n: usize) -> u8
-    requires { i < n }
-    ensures { result ≡ (if nat_eq (i % 16) 15 || i + 1 == n then 10 else 32) }
+// One line of bytes: a line feed behind the last, a blank behind each other.
+#[tactic(auto, unfolding(crate::specs::Shown::shown_line))]
+fn push_line(out: &mut Vec<u8>, line: &[u8]) -> Result<(), AllocError>
+    ensures { OnOk result (out.new.items ≡ out.old.items ++ shown_line line.now) }
 {
-    if i % LINE == LINE - 1 || i + 1 == n {
-        b'\n'
-    } else {
-        b' '
+    let mut rest = line;
+    while let [b, behind @ ..] = rest {
+        push_byte(out, *b)?;
+        out.push(if behind.is_empty() { b'\n' } else { b' ' })?;
+        rest = behind;
     }
+    Ok(())
 }
 
-// The bytes, a blank between two, a line feed behind each line.
+// The bytes, line by line.
 pub fn push_bytes(out: &mut Vec<u8>, bytes: &[u8]) -> Result<(), AllocError>
     ensures text { OnOk result (out.new.items ≡ out.old.items ++ shown_bytes bytes.now) }
     ensures back { lines_bytes (lines (shown_bytes bytes.now)) ≡ Some bytes.now }
 {
-    for (i, b) in bytes.iter().enumerate() {
-        push_byte(out, *b)?;
-        out.push(gap(i, bytes.len()))?;
+    for line in bytes.chunks(LINE) {
+        push_line(out, line)?;
     }
     Ok(())
 }
@@ -73,10 +69,11 @@ pub fn push_bytes(out: &mut Vec<u8>, bytes: &[u8]) -> Result<(), AllocError>
 fn is_plain(b: u8) -> bool
     ensures { result ≡ plain b }
 {
-    b >= b' ' && b <= b'~' && b != b'\\'
+    matches!(b, b' '..=b'~') && b != b'\\'
 }
 
 // The byte, as `\xHH`.
+#[tactic(auto, unfolding(crate::specs::Shown::escaped))]
 fn push_escaped(out: &mut Vec<u8>, b: u8) -> Result<(), AllocError>
     ensures { OnOk result (out.new.items ≡ out.old.items ++ escaped b) }
 {
@@ -85,17 +82,20 @@ fn push_escaped(out: &mut Vec<u8>, b: u8) -> Result<(), AllocError>
 }
 
 // One byte of a name.
+#[tactic(auto, unfolding(crate::specs::Shown::shown_char))]
 fn push_char(out: &mut Vec<u8>, b: u8) -> Result<(), AllocError>
     ensures { OnOk result (out.new.items ≡ out.old.items ++ shown_char b) }
 {
-    if !is_plain(b) {
-        return push_escaped(out, b);
+    if is_plain(b) {
+        out.push(b)?;
+        Ok(())
+    } else {
+        push_escaped(out, b)
     }
-    out.push(b)?;
-    Ok(())
 }
 
 // Bytes of a name, one behind the other.
+#[tactic(auto, unfolding(crate::specs::Shown::shown_chars))]
 fn push_chars(out: &mut Vec<u8>, bytes: &[u8]) -> Result<(), AllocError>
     ensures { OnOk result (out.new.items ≡ out.old.items ++ shown_chars bytes.now) }
 {
@@ -106,6 +106,7 @@ fn push_chars(out: &mut Vec<u8>, bytes: &[u8]) -> Result<(), AllocError>
 }
 
 // The first byte of a name.
+#[tactic(auto, unfolding(crate::specs::Shown::shown_first))]
 fn push_first(out: &mut Vec<u8>, b: u8) -> Result<(), AllocError>
     ensures { OnOk result (out.new.items ≡ out.old.items ++ shown_first b) }
 {
@@ -116,18 +117,23 @@ fn push_first(out: &mut Vec<u8>, b: u8) -> Result<(), AllocError>
     }
 }
 
+// How many spaces the name ends with.
+fn spaces_behind(name: &[u8]) -> usize
+    ensures value { result ≡ suffix_len (nat_eq 32) name.now }
+    ensures within { result ≤ length name.now }
+{
+    name.iter().rev().take_while(|b| **b == b' ').count()
+}
+
 // How many bytes of a name are printed.
+#[tactic(auto, unfolding(crate::specs::Shown::shown_length))]
 fn shown_len(name: &[u8]) -> usize
     requires { 0 < length name.now }
     ensures value { result ≡ shown_length name.now }
     ensures some { 0 < result }
     ensures within { result ≤ length name.now }
 {
-    let mut end = name.len();
-    while end > 1 && name[end - 1] == b' ' {
-        end -= 1;
-    }
-    end
+    (name.len() - spaces_behind(name)).max(1)
 }
 
 // The name without the blanks behind it, with `\xHH` for a byte that is not plain text, for a backslash, and for a blank in front.

@@ -1,9 +1,8 @@
 // The words that commands begin with.
 ghost use Rattle.std.specs.Prelude.{◌≡◌};
-ghost use Rattle.std.specs.Str.{bytes_eq};
 ghost use Rattle.console.specs.Verbs.{verb};
 
-#[derive(Clone, Copy)]
+#[derive(Clone, Copy, Debug, PartialEq, Eq)]
 pub enum Verb {
     Away,
     Check,
@@ -17,47 +16,23 @@ pub enum Verb {
     Unread,
 }
 
-fn is(word: &[u8], spelled: &[u8]) -> bool
-    ensures { result ≡ bytes_eq word.now spelled.now }
-{
-    word == spelled
-}
-
 impl Verb {
     // The command that begins with the word.
     pub fn of(word: &[u8]) -> Option<Verb>
         ensures { result ≡ verb word.now }
     {
-        if is(word, b"away") {
-            return Some(Verb::Away);
+        match word {
+            b"away" => Some(Verb::Away),
+            b"check" => Some(Verb::Check),
+            b"disk" => Some(Verb::Disk),
+            b"entry" => Some(Verb::Entry),
+            b"list" => Some(Verb::List),
+            b"map" => Some(Verb::Map),
+            b"power" => Some(Verb::Power),
+            b"put" => Some(Verb::Put),
+            b"read" => Some(Verb::Read),
+            b"unread" => Some(Verb::Unread),
+            _ => None,
         }
-        if is(word, b"check") {
-            return Some(Verb::Check);
-        }
-        if is(word, b"disk") {
-            return Some(Verb::Disk);
-        }
-        if is(word, b"entry") {
-            return Some(Verb::Entry);
-        }
-        if is(word, b"list") {
-            return Some(Verb::List);
-        }
-        if is(word, b"map") {
-            return Some(Verb::Map);
-        }
-        if is(word, b"power") {
-            return Some(Verb::Power);
-        }
-        if is(word, b"put") {
-            return Some(Verb::Put);
-        }
-        if is(word, b"read") {
-            return Some(Verb::Read);
-        }
-        if is(word, b"unread") {
-            return Some(Verb::Unread);
-        }
-        None
     }
 }

@@ -34,7 +34,10 @@ fn uses_power(command: &Command) -> bool
 {
     match command {
         Command::Put(..) | Command::Away(_) => true,
-        Command::Bad(Some(verb), _, _) => matches!(verb, Verb::Put | Verb::Away),
+        Command::Bad {
+            verb: Some(verb),
+            ..
+        } => matches!(verb, Verb::Put | Verb::Away),
         _ => false,
     }
 }
@@ -44,9 +47,12 @@ fn is_judged(command: &Command) -> bool
     ensures { result ≡ judges (said command.now) }
 {
     match command {
-        Command::Disk(..) | Command::Power(_) => false,
-        Command::Bad(Some(verb), _, _) => !matches!(verb, Verb::Disk | Verb::Power),
-        Command::Bad(None, _, _) => false,
+        Command::Disk { .. } | Command::Power(_) => false,
+        Command::Bad {
+            verb: Some(verb),
+            ..
+        } => !matches!(verb, Verb::Disk | Verb::Power),
+        Command::Bad { verb: None, .. } => false,
         _ => true,
     }
 }
@@ -154,7 +160,7 @@ impl Session {
             Command::Check => out.extend_from_slice(b"sound\n"),
             Command::Unread => push_unread(out, disk),
             Command::Map => push_map(out, disk),
-            Command::Bad(_, why, place) => push_refused(out, *why, *place),
+            Command::Bad { why, place, .. } => push_refused(out, *why, *place),
             _ => Ok(()),
         }
     }
@@ -178,7 +184,7 @@ impl Session {
             return push_refused(out, Refusal::Unsound, place);
         }
         match command {
-            Command::Disk(blocks, _) => {
+            Command::Disk { blocks, .. } => {
                 if self.make_disk(*blocks)? {
                     return Ok(());
                 }

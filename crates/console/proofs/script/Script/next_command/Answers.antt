@@ -27,7 +27,7 @@ returns-in-loop-heap c =
     let first = c.first_line.ensures.lines in
     let counts = sym c.if-is_passed_over.ensures in
     let some = ap verb (sym c.split_word.ensures.first) ∙ sym c.of.ensures ∙ c.in-Some.is in
-    let command : said c.in_ok-command.command ≡ asks v n (behind l) body = c.in_ok-command.ensures ∙ ap (λ r. asks v n r body) c.split_word.ensures.rest in
+    let command : said c.in_ok-command.field-0 ≡ asks v n (behind l) body = c.in_ok-command.ensures ∙ ap (λ r. asks v n r body) c.split_word.ensures.rest in
     let asked : text_asks n t ≡ asks v n (behind l) body ∷ text_asks self.line self.text.now = elim c.match-verb.branch [
       | in-Put+in_ok-body-in-Put w ↦
           asks_put n t l u first counts (some ∙ ap Some w.in-Put.is) w.in_ok-body-in-Put.ensures
