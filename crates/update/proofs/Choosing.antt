@@ -1,15 +1,13 @@
 -- The lowest free blocks, gathered one by one, and the first entry that is not in use. Assumes nothing.
-use Rattle.std.proofs.Common.{◌≡◌, ℕ, zero, suc, ◌+◌, Bool, true, false, not, ◌&&◌, cond, ltb, List, ◌∷◌, length, map, position, Some, None, sym, refl, ap, ◌∙◌, arith}
+use Rattle.std.proofs.Common.{◌≡◌, ℕ, zero, suc, ◌+◌, Bool, true, false, not, cond, ltb, List, ◌∷◌, map, position, Some, None, sym, refl, ap, ◌∙◌, arith}
 use Rattle.std.specs.List.{filter, range_with_len, position_or_len}
-use Rattle.std.proofs.lemmas.Bool.{cond-true, cond-false, le-leb}
+use Rattle.std.proofs.lemmas.Bool.{cond-true, cond-false, lt-ltb, le-ltb}
 use Rattle.layout.specs.declared.entry.Entry.{Entry}
-use Rattle.layout.specs.Files.{has_entries, entry_at, entries, find, found}
-use Rattle.layout.proofs.Finding.{some_from_cond, none_from_cond}
+use Rattle.layout.specs.Files.{entry_at, entries, find, found}
 use Rattle.fsck.specs.Blocks.{in_use, free_from}
 use Rattle.fsck.specs.Sound.{sound}
-use Rattle.fsck.proofs.Deciding.{sound_to_rules}
-use Rattle.fsck.proofs.Contents.{sound_long}
 use Rattle.update.specs.Putting.{unused_from, place_for}
+use Rattle.update.proofs.Admission.{found_place, found_nowhere}
 
 -- the blocks that are in no set which has just those in use
 pub filter-free_from : (d : List ℕ) (test : ℕ → Bool) (b n : ℕ) → ((k : ℕ) → test k ≡ not (in_use d k)) → filter test (range_with_len b n) ≡ free_from d b n
@@ -43,22 +41,16 @@ position-unused d =
     let same : position_or_len (λ (e : Entry). not e.used) (map (entry_at d) (range_with_len 0 16)) ≡ unused_from d 0 16 = omega (arith, unused_from-position d 0 16) in
     ap (λ n. cond (ltb n 16) (Some n) None) same
 
--- a sound disk has its entries
-pub sound_entries : (d : List ℕ) → sound d ≡ true → has_entries d ≡ true
-sound_entries d ok = le-leb 512 (length d) (omega (arith, sound_long d 16 (sound_to_rules d ok)))
-
 -- the place of a file: the one that was found, or else the first entry that is not in use
-module _ (d x : List ℕ) (ok : sound d ≡ true) where
-  found_sound : found d x ≡ cond (ltb (find d x) 16) (Some (find d x)) None
-  found_sound = ap (λ b. cond (b && ltb (find d x) 16) (Some (find d x)) None) (sound_entries d ok)
-
+module _ (d x : List ℕ) where
   pub place_named : (i : ℕ) → Some i ≡ found d x → Some i ≡ cond (ltb (place_for d x) 16) (Some (place_for d x)) None
   unfolding place_for
   place_named i is =
-      let known = some_from_cond (ltb (find d x) 16) i (find d x) (is ∙ found_sound) in
-      let place = cond-true (ltb (find d x) 16) (find d x) (unused_from d 0 16) known.0 in
-      ap Some known.1 ∙ sym (ap (λ p. cond (ltb p 16) (Some p) None) place ∙ cond-true _ _ _ known.0)
+      let here = found_place d x i is in
+      let within = lt-ltb (find d x) 16 here.1 in
+      let place = cond-true (ltb (find d x) 16) (find d x) (unused_from d 0 16) within in
+      ap Some here.0 ∙ sym (ap (λ p. cond (ltb p 16) (Some p) None) place ∙ cond-true _ _ _ within)
 
-  pub place_unnamed : None ≡ found d x → place_for d x ≡ unused_from d 0 16
+  pub place_unnamed : sound d ≡ true → None ≡ found d x → place_for d x ≡ unused_from d 0 16
   unfolding place_for
-  place_unnamed is = cond-false (ltb (find d x) 16) (find d x) (unused_from d 0 16) (none_from_cond (ltb (find d x) 16) (find d x) (is ∙ found_sound))
+  place_unnamed ok is = cond-false (ltb (find d x) 16) (find d x) (unused_from d 0 16) (le-ltb (find d x) 16 (found_nowhere d x ok is))

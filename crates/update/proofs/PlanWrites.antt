@@ -78,12 +78,6 @@ module _ (ws vs : List Write) (w : Write) (first : ws ≡ w ∷ vs) where
       let more : n ≡ suc m = omega arith in
       λ j. after_writes (more j) d (first j)
 
--- and nothing more where none is left
-pub after_none : (n : ℕ) (d : List ℕ) → after_writes n d [] ≡ d
-unfolding after_writes
-after_none zero d = refl
-after_none (suc n) d = refl
-
 -- more power than there are writes makes no difference
 pub after_all : (ws : List Write) (d : List ℕ) (m n : ℕ) → length ws ≤ m → length ws ≤ n → after_writes m d ws ≡ after_writes n d ws
 unfolding after_writes

@@ -31,13 +31,12 @@ fn two_files(heap: Global) -> Result<Vec<u8>, AllocError> {
 }
 
 // The disk is as it was but for the first byte of an entry, which is 0.
-fn freed(heap: Global, disk: &[u8], at: usize) -> Result<bool, AllocError> {
-    let before = two_files(heap)?;
-    let mut same = true;
-    for (i, (now, was)) in disk.iter().zip(before.as_slice()).enumerate() {
-        same = same && if i == at { *now == 0 } else { *now == *was };
+fn is_freed(heap: Global, disk: &[u8], at: usize) -> Result<bool, AllocError> {
+    let mut freed = two_files(heap)?;
+    if let Some(first) = freed.get_mut(at) {
+        *first = 0;
     }
-    Ok(same && disk.len() == before.len())
+    Ok(disk == freed.as_slice())
 }
 
 #[test]
@@ -45,21 +44,21 @@ fn from_both_halves_of_a_block(rt: HostRuntime) -> Result<(), Fail> {
     let heap = rt.alloc();
     let mut disk = two_files(heap)?;
     assert_eq!(rt; take_away(disk.as_mut_slice(), ROSE, 0), Done::Cut);
-    assert!(rt; freed(heap, disk.as_slice(), disk.len())?);
+    assert!(rt; is_freed(heap, disk.as_slice(), disk.len())?);
     assert_eq!(rt; take_away(disk.as_mut_slice(), ROSE, 1), Done::Finished);
-    assert!(rt; freed(heap, disk.as_slice(), 0)?);
+    assert!(rt; is_freed(heap, disk.as_slice(), 0)?);
     let mut disk = two_files(heap)?;
     assert_eq!(rt;
         take_away(disk.as_mut_slice(), LEAF, u64::MAX),
         Done::Finished
     );
-    assert!(rt; freed(heap, disk.as_slice(), Disk::ENTRY)?);
+    assert!(rt; is_freed(heap, disk.as_slice(), Disk::ENTRY)?);
     assert_eq!(rt;
         take_away(disk.as_mut_slice(), LEAF, 0),
         Done::Finished,
         "there is none, so nothing is to be written"
     );
-    assert!(rt; freed(heap, disk.as_slice(), Disk::ENTRY)?);
+    assert!(rt; is_freed(heap, disk.as_slice(), Disk::ENTRY)?);
     Ok(())
 }
 
@@ -75,7 +74,7 @@ fn refusals(rt: HostRuntime) -> Result<(), Fail> {
         take_away(disk.as_mut_slice(), b"TULIP      ", 1),
         Done::Finished
     );
-    assert!(rt; freed(heap, disk.as_slice(), disk.len())?);
+    assert!(rt; is_freed(heap, disk.as_slice(), disk.len())?);
     disk.truncate(Disk::BLOCK);
     assert_eq!(rt;
         take_away(disk.as_mut_slice(), b"ROSE", 1),

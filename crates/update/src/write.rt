@@ -7,7 +7,7 @@ use fsck::sound_disk::SoundDisk;
 use layout::disk::Disk;
 
 // A write puts these bytes into the block of this number, all of them or none.
-#[derive(Clone, Copy)]
+#[derive(Debug, Clone, Copy, PartialEq, Eq)]
 pub struct Write {
     pub to: usize,
     pub bytes: [u8; Disk::BLOCK],
@@ -42,8 +42,8 @@ impl Write {
     }
 }
 
-// The same while power lasts, which then lasts for one write less. Says whether power lasted: nothing is written once it has failed.
-// Power is a number that falls from write to write, so it is lent.
+// The same while power lasts, which then lasts for one write less. The answer is whether it lasted, and nothing more: once it has failed nothing is written.
+// The rules of the project ask for power as a number that falls from write to write.
 pub(crate) fn write_powered(disk: &mut [u8], write: &Write, power: &mut u64) -> bool
     requires { 64 * write.now.to + 64 ≤ length disk.old }
     ensures made { result ≡ nat_lt 0 power.old }

@@ -7,8 +7,9 @@ use Rattle.layout.specs.Files.{has_entries}
 use Rattle.fsck.specs.Sets.{member}
 use Rattle.fsck.specs.Blocks.{size, in_use, free_from, free}
 use Rattle.fsck.proofs.Deciding.{sound_to_rules}
+use Rattle.fsck.proofs.Contents.{sound_has_entries}
 use Rattle.update.specs.Listed.{listed}
-use Rattle.update.proofs.Choosing.{filter-free_from, sound_entries}
+use Rattle.update.proofs.Choosing.{filter-free_from}
 use Rattle.update.proofs.choose.choose_blocks.Goals as goal
 use Rattle.update.proofs.choose.choose_blocks.Goals.{In-None}
 
@@ -24,7 +25,7 @@ all_taken c =
     let used = c.blocks_in_use-used in
     let test : ℕ → Bool = λ b. not (member used.result b) in
     let n = c.blocks-size.result in
-    let free_ones : filter test (range_with_len 8 (n - 8)) ≡ free d = filter-free_from d test 8 (n - 8) (λ k. ap not (used.ensures.members k ∙ (λ j. has_entries (c.bytes.ensures j).now && in_use (c.bytes.ensures j).now k) ∙ ap (λ t. t && in_use d k) (sound_entries d c.args.disk.sound))) ∙ ap (λ m. free_from d 8 (m - 8)) c.blocks-size.ensures in
+    let free_ones : filter test (range_with_len 8 (n - 8)) ≡ free d = filter-free_from d test 8 (n - 8) (λ k. ap not (used.ensures.members k ∙ (λ j. has_entries (c.bytes.ensures j).now && in_use (c.bytes.ensures j).now k) ∙ ap (λ t. t && in_use d k) (sound_has_entries d 16 (sound_to_rules d c.args.disk.sound)))) ∙ ap (λ m. free_from d 8 (m - 8)) c.blocks-size.ensures in
     let all = YieldsList-end
     (YieldsList-at c.into_iter-b-iterator.ensures.into_iter_gives (YieldsList-from_take c.args.needed
     (YieldsList-at c.take-b-items.ensures.source (YieldsList-from_filter _ test (YieldsList-at c.filter-free.ensures.source (YieldsList-from_range 8 n (n - 8) refl refl)) c.filter-free.ensures.closure (λ x r q k. search (rules, tests))))

@@ -6,7 +6,7 @@ use Rattle.update.proofs.choose.choose_entry.Goals as goal
 pub returns-in-Some : goal.returns-in-Some
 returns-in-Some c =
     let x = c.args.name.now.bytes in
-    place_named c.args.disk.bytes.now x c.args.disk.sound c.in-Some.place (c.in-Some.ensures.value ∙ (λ j. found (c.view.ensures j).now x))
+    place_named c.args.disk.bytes.now x c.in-Some.place (c.in-Some.ensures.value ∙ (λ j. found (c.view.ensures j).now x))
 
 pub returns : goal.returns
 returns c =

@@ -2,8 +2,8 @@ use Rattle.std.proofs.Common.{◌≡◌, ◌+◌, ◌<◌, length, sym, ap, ◌�
 use Rattle.std.proofs.lemmas.Bool.{ltb-true, ltb-false}
 use Rattle.update.specs.Writes.{after_writes}
 use Rattle.update.specs.Plans.{plan_writes, writes_left, OnDisk}
-use Rattle.update.proofs.Places.{after_nothing}
-use Rattle.update.proofs.PlanWrites.{first_on_disk, rest_on_disk, after_first, after_none}
+use Rattle.update.proofs.Places.{after_none, after_nothing}
+use Rattle.update.proofs.PlanWrites.{first_on_disk, rest_on_disk, after_first}
 use Rattle.update.proofs.request.carry_out.Goals as goal
 
 pub loop-write-init : goal.loop-write-init
