@@ -1,5 +1,5 @@
 // A disk in a file of the system.
-use crate::failure::{Failure, with_file};
+use crate::failure::{Failure, OnFile};
 use layout::disk::Disk;
 use std::fs::{File, OpenOptions};
 use std::io::{ErrorKind, Read, Seek, SeekFrom, Write};
@@ -66,7 +66,7 @@ impl Image {
                 return Err(Failure::System(path, error));
             }
         };
-        with_file(path.as_str(), read_bytes(&mut file, &mut bytes), rt.alloc())?;
+        read_bytes(&mut file, &mut bytes).on_file(path.as_str(), rt.alloc())?;
         Ok((Image { path, file: None }, bytes))
     }
 
@@ -74,11 +74,7 @@ impl Image {
     pub fn make(&mut self, rt: &HostRuntime, bytes: &[u8]) -> Result<(), Failure> {
         let path = self.path.as_str();
         let beside = format!(in rt.alloc(); "{path}.new")?;
-        let file = with_file(
-            path,
-            make_file(rt, beside.as_str(), path, bytes),
-            rt.alloc(),
-        )?;
+        let file = make_file(rt, beside.as_str(), path, bytes).on_file(path, rt.alloc())?;
         self.file = Some(file);
         Ok(())
     }
@@ -93,10 +89,10 @@ impl Image {
             Some(file) => file,
             None => {
                 let opened = OpenOptions::new().write(true).open(rt, path);
-                with_file(path, opened, rt.alloc())?
+                opened.on_file(path, rt.alloc())?
             }
         };
-        with_file(path, make_writes(&mut file, writes), rt.alloc())?;
+        make_writes(&mut file, writes).on_file(path, rt.alloc())?;
         self.file = Some(file);
         Ok(())
     }

@@ -14,82 +14,54 @@ use std::process::ExitCode;
 // The command text on standard input.
 fn input(rt: &HostRuntime) -> Result<Vec<u8>, Failure> {
     let mut text = Vec::new(rt.alloc());
-    match rt.stdin().read_to_end(&mut text) {
-        Ok(_) => Ok(text),
-        Err(error) => Err(Failure::Stream(error)),
-    }
+    rt.stdin().read_to_end(&mut text).map_err(Failure::Stream)?;
+    Ok(text)
 }
 
 // The words, a blank between two.
 fn joined(rt: &HostRuntime, words: &[String]) -> Result<String, Failure> {
-    let mut line = String::new(rt.alloc());
-    for word in words {
-        if !line.is_empty() {
-            line.push(' ')?;
-        }
-        line.push_str(word.as_str())?;
-    }
-    Ok(line)
+    Ok(words.join(rt.alloc(), " ")?)
 }
 
-// One command over the image, from the words.
-fn single(rt: &HostRuntime, run: &mut Run, words: &[String]) -> Result<(), Failure> {
-    let Some(verb) = words.first() else {
-        return Err(Failure::Usage);
-    };
-    let put = verb.as_str() == "put";
-    let read = verb.as_str() == "read";
-    if words.len() == 3 && (put || read) {
-        let line = joined(rt, &words[0..2])?;
-        let file = words[2].as_str();
-        if put {
-            return run.put(rt, line.as_str(), file);
+// What the words ask of the image.
+fn over_image(rt: &HostRuntime, run: &mut Run, words: &[String]) -> Result<(), Failure> {
+    match words {
+        [] => run.script(rt, input(rt)?.as_slice()),
+        [verb, _, file] if verb.as_str() == "put" => {
+            run.put(rt, joined(rt, &words[..2])?.as_str(), file.as_str())
         }
-        return run.read(rt, line.as_str(), file);
+        [verb, _, file] if verb.as_str() == "read" => {
+            run.read(rt, joined(rt, &words[..2])?.as_str(), file.as_str())
+        }
+        [verb, ..] if verb.as_str() == "put" => Err(Failure::Usage),
+        _ => run.command(rt, joined(rt, words)?.as_str()),
     }
-    if put {
-        return Err(Failure::Usage);
-    }
-    run.command(rt, joined(rt, words)?.as_str())
 }
 
 fn start(rt: &HostRuntime) -> Result<(), Failure> {
-    let mut args = match env::args(rt) {
-        Ok(args) => args,
-        Err(error) => return Err(Failure::Stream(error)),
-    };
+    let mut args = env::args(rt).map_err(Failure::Stream)?;
     // The program's own name.
     args.next();
     let Some(image) = args.next() else {
         return Run::in_memory(rt).script(rt, input(rt)?.as_slice());
     };
     if image.as_str() == "--help" {
-        return match rt.stdout().print(USAGE) {
-            Ok(()) => Ok(()),
-            Err(error) => Err(Failure::Stream(error)),
-        };
+        return rt.stdout().println(USAGE).map_err(Failure::Stream);
     }
     if image.as_str().starts_with("--") {
         return Err(Failure::Usage);
     }
-    let mut words = Vec::new(rt.alloc());
-    for word in args {
-        if words.push(word).is_err() {
-            return Err(Failure::Memory);
-        }
-    }
+    let words = args.collect::<Vec<String>>(rt.alloc())?;
     let mut run = Run::over_image(rt, image)?;
-    if words.is_empty() {
-        return run.script(rt, input(rt)?.as_slice());
-    }
-    single(rt, &mut run, words.as_slice())
+    over_image(rt, &mut run, words.as_slice())
 }
 
 fn main(rt: HostRuntime) -> ExitCode {
     match start(&rt) {
         Ok(()) => ExitCode::SUCCESS,
         Err(failure) => {
-            failure.report(&rt);
+            // What can't be said is let go.
+            let _ = rt.eprintln(failure);
             ExitCode::FAILURE
         }
     }

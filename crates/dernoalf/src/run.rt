@@ -1,5 +1,5 @@
 // Commands over a disk, in memory alone or with an image file beside it.
-use crate::failure::{Failure, with_file};
+use crate::failure::{Failure, OnFile};
 use crate::image::Image;
 use console::command::Command;
 use console::script::Script;
@@ -86,13 +86,11 @@ impl Run {
     }
 
     fn print(&mut self, rt: &HostRuntime) -> Result<(), Failure> {
-        match rt.stdout().write_all(self.out.as_slice()) {
-            Ok(()) => {
-                self.out.clear();
-                Ok(())
-            }
-            Err(error) => Err(Failure::Stream(error)),
-        }
+        rt.stdout()
+            .write_all(self.out.as_slice())
+            .map_err(Failure::Stream)?;
+        self.out.clear();
+        Ok(())
     }
 
     // Every command of the text, whatever the ones before it answered.
@@ -163,7 +161,7 @@ impl Run {
 
     // Puts the bytes of a file of the system.
     pub fn put(&mut self, rt: &HostRuntime, line: &str, file: &str) -> Result<(), Failure> {
-        let content = with_file(file, fs::read(rt, file), rt.alloc())?;
+        let content = fs::read(rt, file).on_file(file, rt.alloc())?;
         let command = match Run::only(rt, line)? {
             Command::Put(name, _) => Command::Put(name, content),
             other => other,
@@ -179,7 +177,7 @@ impl Run {
         };
         let mut room = [0; Disk::LONGEST];
         match read_file(self.session.disk(), &name.bytes, &mut room) {
-            Done::Read(len) => with_file(file, fs::write(rt, file, &room[0..len]), rt.alloc()),
+            Done::Read(len) => fs::write(rt, file, &room[0..len]).on_file(file, rt.alloc()),
             // It says why.
             _ => self.single(rt, &command),
         }
