@@ -8,6 +8,7 @@ use layout::disk::Disk;
 use reader::read::read_file;
 use session::answers::push_refused;
 use session::session::Session;
+use std::alloc::Global;
 use std::fs;
 use std::io::Write;
 use update::answer::{Done, Refusal};
@@ -27,27 +28,25 @@ pub struct Run {
 }
 
 impl Run {
-    // Over a disk in memory, which has no blocks before `disk`.
-    pub fn in_memory(rt: &HostRuntime) -> Run {
-        let heap = rt.alloc();
+    fn new(heap: Global, disk: Vec<u8>, image: Option<Image>) -> Run {
         Run {
-            session: Session::new(Vec::new(heap)),
-            image: None,
+            session: Session::new(disk),
+            image,
             out: Vec::new(heap),
             log: Vec::new(heap),
         }
     }
 
+    // Over a disk in memory, which has no blocks before `disk`.
+    pub fn in_memory(rt: &HostRuntime) -> Run {
+        let heap = rt.alloc();
+        Run::new(heap, Vec::new(heap), None)
+    }
+
     // Over the image file of this name.
     pub fn over_image(rt: &HostRuntime, path: String) -> Result<Run, Failure> {
-        let heap = rt.alloc();
-        let (image, bytes) = Image::open(rt, path)?;
-        Ok(Run {
-            session: Session::new(bytes),
-            image: Some(image),
-            out: Vec::new(heap),
-            log: Vec::new(heap),
-        })
+        let (image, disk) = Image::open(rt, path)?;
+        Ok(Run::new(rt.alloc(), disk, Some(image)))
     }
 
     // Obeys the command, and makes its writes on the image too.
@@ -57,8 +56,7 @@ impl Run {
             && !self.session.disk().is_empty()
         {
             // An image that is there is not made anew.
-            push_refused(&mut self.out, Refusal::Unreadable, *line)?;
-            return Ok(());
+            return Ok(push_refused(&mut self.out, Refusal::Unreadable, *line)?);
         }
         self.log.clear();
         let printed = self.out.len();
@@ -135,8 +133,7 @@ impl Run {
         if self.is_done(command) {
             return self.print(rt);
         }
-        let mut said = Vec::new(rt.alloc());
-        said.extend_from_slice(self.out.as_slice())?;
+        let said = self.out.as_slice().to_vec(rt.alloc())?;
         Err(Failure::NotDone(said))
     }
 
@@ -144,12 +141,9 @@ impl Run {
     fn only(rt: &HostRuntime, line: &str) -> Result<Command, Failure> {
         let heap = rt.alloc();
         let mut script = Script::new(line.as_bytes());
-        let Some(command) = script.next_command(heap)? else {
-            return Err(Failure::Usage);
-        };
-        match script.next_command(heap)? {
-            None => Ok(command),
-            Some(_) => Err(Failure::Usage),
+        match (script.next_command(heap)?, script.next_command(heap)?) {
+            (Some(command), None) => Ok(command),
+            _ => Err(Failure::Usage),
         }
     }
 
