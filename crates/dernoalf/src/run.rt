@@ -95,10 +95,7 @@ impl Run {
     fn obey_all(&mut self, rt: &HostRuntime, text: &[u8]) -> Result<(), Failure> {
         let heap = rt.alloc();
         let mut script = Script::new(text);
-        for _ in 0..=text.len() {
-            let Some(command) = script.next_command(heap)? else {
-                break;
-            };
+        while let Some(command) = script.next_command(heap)? {
             self.obey(rt, &command)?;
             if self.out.len() >= FULL {
                 self.print(rt)?;
