@@ -1,28 +1,28 @@
 // A disk compared with the files that it should have, as the library reads it and as the machine does.
 use crate::change::NAMES;
 use crate::machine::{LONGEST, Machine};
-use crate::model::{Model, Verdict};
+use crate::model::{Model, Name, Verdict};
 use fsck::judge::first_fault;
 use fsck::usage::blocks_in_use;
 use layout::disk::Disk;
 use layout::entry::Entry;
-use layout::name::Name;
 use reader::read::{entry_of, read_file};
+use std::error::Error;
 use std::fmt;
 use update::answer::Done;
 
 // What is otherwise than it should be.
-#[derive(Drop)]
+#[derive(Debug, Clone, Copy, PartialEq, Eq)]
 pub enum Difference {
     Answer,
     Fault,
     Listing,
     FreeBlocks,
     // Of this name, as the library reads it.
-    File([u8; 11]),
-    Entry([u8; 11]),
+    File(Name),
+    Entry(Name),
     // And as the machine does.
-    MachineFile([u8; 11]),
+    MachineFile(Name),
     // More blocks are changed than power lasted for.
     Writes,
     // The writes of the plan, one by one, leave another disk.
@@ -56,6 +56,8 @@ impl fmt::Display for Difference {
     }
 }
 
+impl Error for Difference {}
+
 // Whether the answer is the one that had to come, with power for so many writes.
 pub fn is_answer(answer: Done, verdict: Verdict, lasts: u64) -> bool {
     match (answer, verdict) {
@@ -79,41 +81,36 @@ pub fn changed_blocks(before: &[u8], after: &[u8]) -> u64 {
 // The file under the name, in both readings.
 fn compare_file(
     disk: &[u8],
-    name: &[u8; 11],
+    name: &Name,
     expected: Option<&[u8]>,
     room: &mut [u8; LONGEST],
 ) -> Result<(), Difference> {
     let view = Disk::new(disk);
     let read = view
-        .lookup(&Name { bytes: *name })
-        .and_then(|entry| view.copy_file(&entry, room).ok());
-    if part(room, read) != expected {
+        .lookup(&layout::name::Name { bytes: *name })
+        .and_then(|entry| view.copy_file(&entry, room).ok())
+        .and_then(|len| room.get(0..len));
+    if read != expected {
         return Err(Difference::File(*name));
     }
-    let read = Machine::new(disk).read(name, room);
-    if part(room, read) != expected {
+    if Machine::new(disk).read(name, room) != expected {
         return Err(Difference::MachineFile(*name));
     }
     Ok(())
 }
 
-// The first bytes of the room, if so many were read.
-fn part(room: &[u8; LONGEST], read: Option<usize>) -> Option<&[u8]> {
-    room.get(0..read?)
-}
-
 // The file and the entry of the name that was asked for, by the calls that judge the disk themselves.
 fn compare_asked(
     disk: &[u8],
-    name: &[u8; 11],
+    name: &Name,
     expected: Option<&[u8]>,
     room: &mut [u8; LONGEST],
 ) -> Result<(), Difference> {
     let read = match read_file(disk, name, room) {
-        Done::Read(len) => Some(len),
+        Done::Read(len) => room.get(0..len),
         _ => None,
     };
-    if part(room, read) != expected {
+    if read != expected {
         return Err(Difference::File(*name));
     }
     let entry = entry_of(disk, name);
@@ -169,7 +166,7 @@ pub fn compare(disk: &[u8], model: &Model, asked: &[u8]) -> Result<u64, Differen
     compare_listing(disk, model)?;
     compare_free(disk, model)?;
     let mut room = [0; LONGEST];
-    let asked = <[u8; 11]>::try_from(asked).ok();
+    let asked = Name::try_from(asked).ok();
     if let Some(name) = &asked {
         compare_asked(disk, name, model.file(name), &mut room)?;
     }

@@ -119,8 +119,8 @@ impl<'a> Machine<'a> {
         (0..16).find(|i| self.is_used(*i) && self.name(*i) == Some(name))
     }
 
-    // Puts the file's bytes into the room, and answers how many they are.
-    pub fn read(&self, name: &[u8], room: &mut [u8; LONGEST]) -> Option<usize> {
+    // The file's bytes, once they are in the room; nothing where there is no file, or where it has more bytes than the room.
+    pub fn read<'r>(&self, name: &[u8], room: &'r mut [u8; LONGEST]) -> Option<&'r [u8]> {
         let i = self.find(name)?;
         for k in 0..self.filled(i).min(16) {
             let from = 64 * self.block(i, k);
@@ -128,7 +128,7 @@ impl<'a> Machine<'a> {
                 room[64 * k..64 * k + 64].copy_from_slice(block);
             }
         }
-        Some(self.len(i))
+        room.get(0..self.len(i))
     }
 
     // How many files there are.
