@@ -18,30 +18,28 @@ fn input(rt: &HostRuntime) -> Result<Vec<u8>, Failure> {
     Ok(text)
 }
 
-// The words, a blank between two.
-fn joined(rt: &HostRuntime, words: &[String]) -> Result<String, Failure> {
-    Ok(words.join(rt.alloc(), " ")?)
-}
-
 // What the words ask of the image.
 fn over_image(rt: &HostRuntime, run: &mut Run, words: &[String]) -> Result<(), Failure> {
+    let heap = rt.alloc();
     match words {
         [] => run.script(rt, input(rt)?.as_slice()),
-        [verb, _, file] if verb.as_str() == "put" => {
-            run.put(rt, joined(rt, &words[..2])?.as_str(), file.as_str())
+        [verb, name, file] if verb.as_str() == "put" => {
+            let line = format!(in heap; "put {name}")?;
+            run.put(rt, line.as_str(), file.as_str())
         }
-        [verb, _, file] if verb.as_str() == "read" => {
-            run.read(rt, joined(rt, &words[..2])?.as_str(), file.as_str())
+        [verb, name, file] if verb.as_str() == "read" => {
+            let line = format!(in heap; "read {name}")?;
+            run.read(rt, line.as_str(), file.as_str())
         }
+        // A put needs its file.
         [verb, ..] if verb.as_str() == "put" => Err(Failure::Usage),
-        _ => run.command(rt, joined(rt, words)?.as_str()),
+        _ => run.command(rt, words.join(heap, " ")?.as_str()),
     }
 }
 
 fn start(rt: &HostRuntime) -> Result<(), Failure> {
-    let mut args = env::args(rt).map_err(Failure::Stream)?;
-    // The program's own name.
-    args.next();
+    // Without the program's own name.
+    let mut args = env::args(rt).map_err(Failure::Stream)?.skip(1);
     let Some(image) = args.next() else {
         return Run::in_memory(rt).script(rt, input(rt)?.as_slice());
     };

@@ -61,12 +61,9 @@ impl Run {
         self.log.clear();
         let printed = self.out.len();
         self.session.obey(command, &mut self.out, &mut self.log)?;
-        let kept = self.keep(rt, command);
-        if kept.is_err() {
-            // What the image doesn't have is not said to be done.
-            self.out.truncate(printed);
-        }
-        kept
+        // What the image doesn't have is not said to be done.
+        self.keep(rt, command)
+            .inspect_err(|_| self.out.truncate(printed))
     }
 
     // Makes on the image what the command made in memory.

@@ -123,20 +123,20 @@ fn compare_asked(
     Ok(())
 }
 
-// Whether the entry, if it is in use, has a file of the model with its length.
-fn is_listed(entry: &Entry, model: &Model) -> bool {
-    !entry.used
-        || model
-            .file(&entry.name.bytes)
-            .is_some_and(|content| content.len() == usize::from(entry.len))
+// Whether the entry is there and, if it is in use, has a file of the model with its length.
+fn is_listed(entry: Option<Entry>, model: &Model) -> bool {
+    entry.is_some_and(|entry| {
+        !entry.used
+            || model
+                .file(&entry.name.bytes)
+                .is_some_and(|content| content.len() == usize::from(entry.len))
+    })
 }
 
 // The names and lengths of all files.
 fn compare_listing(disk: &[u8], model: &Model) -> Result<(), Difference> {
     let view = Disk::new(disk);
-    let listed = (0..Disk::ENTRIES).all(|i| view
-        .entry(i)
-        .is_some_and(|entry| is_listed(&entry, model)));
+    let listed = (0..Disk::ENTRIES).all(|i| is_listed(view.entry(i), model));
     let used = (0..Disk::ENTRIES)
         .filter_map(|i| view.entry(i))
         .filter(|entry| entry.used)
