@@ -1,10 +1,10 @@
 // What ends the program early, or keeps one command from being done.
 use std::alloc::{AllocError, Global};
-use std::io;
-use std::io::Print;
+use std::error::Error;
 use std::str::from_utf8;
+use std::{fmt, io};
 
-#[derive(Drop)]
+#[derive(Debug, Drop)]
 pub enum Failure {
     Memory,
     // What was wrong, with this file of the system.
@@ -23,15 +23,15 @@ impl From<AllocError> for Failure {
     }
 }
 
-// The failure, with the file's name.
-pub fn with_file<T>(file: &str, res: io::Result<T>, heap: Global) -> Result<T, Failure> {
-    match res {
-        Ok(value) => Ok(value),
-        Err(error) => {
-            let mut name = String::new(heap);
-            name.push_str(file)?;
-            Err(Failure::System(name, error))
-        }
+// What came of a call on a file of the system.
+pub trait OnFile<T> {
+    // The same, with the file's name in the failure.
+    fn on_file(self, file: &str, heap: Global) -> Result<T, Failure>;
+}
+
+impl<T> OnFile<T> for io::Result<T> {
+    fn on_file(self, file: &str, heap: Global) -> Result<T, Failure> {
+        self.try_map_err(|error| Ok(Failure::System(String::from_str(heap, file)?, error)))
     }
 }
 
@@ -42,8 +42,7 @@ pub const USAGE: &str =
        dernoalf IMAGE put NAME FILE      puts the file's bytes under the name
        dernoalf IMAGE read NAME FILE     writes the bytes under the name to the file
        dernoalf IMAGE COMMAND [WORDS]    one command: disk N, list, check, map, unread,
-                                         read NAME, entry NAME, away NAME
-";
+                                         read NAME, entry NAME, away NAME";
 
 // Why a command was not done, by what it printed.
 fn reason(said: &[u8]) -> &'static str {
@@ -68,19 +67,19 @@ fn reason(said: &[u8]) -> &'static str {
     "it was not done"
 }
 
-impl Failure {
-    // Says it on standard error; what can't be said there is let go.
-    pub fn report(&self, rt: &HostRuntime) {
-        let err = rt.stderr();
-        let _ = match self {
-            Failure::Memory => err.println("dernoalf: out of memory"),
-            Failure::System(file, error) => err.println(format_args!("dernoalf: {file}: {error}")),
-            Failure::Stream(error) => err.println(format_args!("dernoalf: {error}")),
+impl fmt::Display for Failure {
+    fn fmt<W: fmt::Write>(&self, f: &mut fmt::Formatter<W>) -> fmt::Result {
+        match self {
+            Failure::Memory => write!(f, "dernoalf: out of memory"),
+            Failure::System(file, error) => write!(f, "dernoalf: {file}: {error}"),
+            Failure::Stream(error) => write!(f, "dernoalf: {error}"),
             Failure::NotDone(said) => {
                 let line = from_utf8(said.as_slice()).unwrap_or("").trim_end();
-                err.println(format_args!("dernoalf: {line}: {}", reason(said.as_slice())))
+                write!(f, "dernoalf: {line}: {}", reason(said.as_slice()))
             }
-            Failure::Usage => err.print(USAGE),
-        };
+            Failure::Usage => write!(f, "{USAGE}"),
+        }
     }
 }
+
+impl Error for Failure {}

@@ -1,6 +1,7 @@
 // A disk in a file of the system.
-use crate::failure::{Failure, with_file};
+use crate::failure::{Failure, OnFile};
 use layout::disk::Disk;
+use std::alloc::Global;
 use std::fs::{File, OpenOptions};
 use std::io::{ErrorKind, Read, Seek, SeekFrom, Write};
 use std::{fs, io};
@@ -17,16 +18,10 @@ pub struct Image {
 const ROOM: usize = Disk::MOST * Disk::BLOCK + 1;
 
 // The bytes of the file, up to the room for them.
-fn read_bytes(file: &mut File, bytes: &mut Vec<u8>) -> io::Result<()> {
-    for _ in 0..ROOM {
-        let mut part = [0; Disk::BLOCK];
-        let n = file.read(&mut part)?;
-        if n == 0 || bytes.len() >= ROOM {
-            break;
-        }
-        bytes.extend_from_slice(&part[0..n])?;
-    }
-    Ok(())
+fn read_bytes(file: File, heap: Global) -> io::Result<Vec<u8>> {
+    let mut bytes = Vec::new(heap);
+    file.take(ROOM as u64).read_to_end(&mut bytes)?;
+    Ok(bytes)
 }
 
 // Writes these bytes at this place, and waits until they are kept.
@@ -56,17 +51,13 @@ fn make_writes(file: &mut File, writes: &[write::Write]) -> io::Result<()> {
 impl Image {
     // The image under this name, and the bytes that it has: none where there is no such file.
     pub fn open(rt: &HostRuntime, path: String) -> Result<(Image, Vec<u8>), Failure> {
-        let mut bytes = Vec::new(rt.alloc());
-        let mut file = match File::open(rt, path.as_str()) {
-            Ok(file) => file,
-            Err(error) => {
-                if error.kind() == ErrorKind::NotFound {
-                    return Ok((Image { path, file: None }, bytes));
-                }
-                return Err(Failure::System(path, error));
-            }
+        let heap = rt.alloc();
+        let read = match File::open(rt, path.as_str()) {
+            Ok(file) => read_bytes(file, heap),
+            Err(error) if error.kind() == ErrorKind::NotFound => Ok(Vec::new(heap)),
+            Err(error) => Err(error),
         };
-        with_file(path.as_str(), read_bytes(&mut file, &mut bytes), rt.alloc())?;
+        let bytes = read.on_file(path.as_str(), heap)?;
         Ok((Image { path, file: None }, bytes))
     }
 
@@ -74,11 +65,7 @@ impl Image {
     pub fn make(&mut self, rt: &HostRuntime, bytes: &[u8]) -> Result<(), Failure> {
         let path = self.path.as_str();
         let beside = format!(in rt.alloc(); "{path}.new")?;
-        let file = with_file(
-            path,
-            make_file(rt, beside.as_str(), path, bytes),
-            rt.alloc(),
-        )?;
+        let file = make_file(rt, beside.as_str(), path, bytes).on_file(path, rt.alloc())?;
         self.file = Some(file);
         Ok(())
     }
@@ -89,15 +76,11 @@ impl Image {
             return Ok(());
         }
         let path = self.path.as_str();
-        let mut file = match self.file.take() {
-            Some(file) => file,
-            None => {
-                let opened = OpenOptions::new().write(true).open(rt, path);
-                with_file(path, opened, rt.alloc())?
-            }
-        };
-        with_file(path, make_writes(&mut file, writes), rt.alloc())?;
-        self.file = Some(file);
-        Ok(())
+        let heap = rt.alloc();
+        let file = self.file.get_or_try_insert_with(|| {
+            let opened = OpenOptions::new().write(true).open(rt, path);
+            opened.on_file(path, heap)
+        })?;
+        make_writes(file, writes).on_file(path, heap)
     }
 }

@@ -1,5 +1,5 @@
 // Commands over a disk, in memory alone or with an image file beside it.
-use crate::failure::{Failure, with_file};
+use crate::failure::{Failure, OnFile};
 use crate::image::Image;
 use console::command::Command;
 use console::script::Script;
@@ -8,6 +8,7 @@ use layout::disk::Disk;
 use reader::read::read_file;
 use session::answers::push_refused;
 use session::session::Session;
+use std::alloc::Global;
 use std::fs;
 use std::io::Write;
 use update::answer::{Done, Refusal};
@@ -27,27 +28,25 @@ pub struct Run {
 }
 
 impl Run {
-    // Over a disk in memory, which has no blocks before `disk`.
-    pub fn in_memory(rt: &HostRuntime) -> Run {
-        let heap = rt.alloc();
+    fn new(heap: Global, disk: Vec<u8>, image: Option<Image>) -> Run {
         Run {
-            session: Session::new(Vec::new(heap)),
-            image: None,
+            session: Session::new(disk),
+            image,
             out: Vec::new(heap),
             log: Vec::new(heap),
         }
     }
 
+    // Over a disk in memory, which has no blocks before `disk`.
+    pub fn in_memory(rt: &HostRuntime) -> Run {
+        let heap = rt.alloc();
+        Run::new(heap, Vec::new(heap), None)
+    }
+
     // Over the image file of this name.
     pub fn over_image(rt: &HostRuntime, path: String) -> Result<Run, Failure> {
-        let heap = rt.alloc();
-        let (image, bytes) = Image::open(rt, path)?;
-        Ok(Run {
-            session: Session::new(bytes),
-            image: Some(image),
-            out: Vec::new(heap),
-            log: Vec::new(heap),
-        })
+        let (image, disk) = Image::open(rt, path)?;
+        Ok(Run::new(rt.alloc(), disk, Some(image)))
     }
 
     // Obeys the command, and makes its writes on the image too.
@@ -57,18 +56,14 @@ impl Run {
             && !self.session.disk().is_empty()
         {
             // An image that is there is not made anew.
-            push_refused(&mut self.out, Refusal::Unreadable, *line)?;
-            return Ok(());
+            return Ok(push_refused(&mut self.out, Refusal::Unreadable, *line)?);
         }
         self.log.clear();
         let printed = self.out.len();
         self.session.obey(command, &mut self.out, &mut self.log)?;
-        let kept = self.keep(rt, command);
-        if kept.is_err() {
-            // What the image doesn't have is not said to be done.
-            self.out.truncate(printed);
-        }
-        kept
+        // What the image doesn't have is not said to be done.
+        self.keep(rt, command)
+            .inspect_err(|_| self.out.truncate(printed))
     }
 
     // Makes on the image what the command made in memory.
@@ -86,23 +81,18 @@ impl Run {
     }
 
     fn print(&mut self, rt: &HostRuntime) -> Result<(), Failure> {
-        match rt.stdout().write_all(self.out.as_slice()) {
-            Ok(()) => {
-                self.out.clear();
-                Ok(())
-            }
-            Err(error) => Err(Failure::Stream(error)),
-        }
+        rt.stdout()
+            .write_all(self.out.as_slice())
+            .map_err(Failure::Stream)?;
+        self.out.clear();
+        Ok(())
     }
 
     // Every command of the text, whatever the ones before it answered.
     fn obey_all(&mut self, rt: &HostRuntime, text: &[u8]) -> Result<(), Failure> {
         let heap = rt.alloc();
         let mut script = Script::new(text);
-        for _ in 0..=text.len() {
-            let Some(command) = script.next_command(heap)? else {
-                break;
-            };
+        while let Some(command) = script.next_command(heap)? {
             self.obey(rt, &command)?;
             if self.out.len() >= FULL {
                 self.print(rt)?;
@@ -137,8 +127,7 @@ impl Run {
         if self.is_done(command) {
             return self.print(rt);
         }
-        let mut said = Vec::new(rt.alloc());
-        said.extend_from_slice(self.out.as_slice())?;
+        let said = self.out.as_slice().to_vec(rt.alloc())?;
         Err(Failure::NotDone(said))
     }
 
@@ -146,12 +135,9 @@ impl Run {
     fn only(rt: &HostRuntime, line: &str) -> Result<Command, Failure> {
         let heap = rt.alloc();
         let mut script = Script::new(line.as_bytes());
-        let Some(command) = script.next_command(heap)? else {
-            return Err(Failure::Usage);
-        };
-        match script.next_command(heap)? {
-            None => Ok(command),
-            Some(_) => Err(Failure::Usage),
+        match (script.next_command(heap)?, script.next_command(heap)?) {
+            (Some(command), None) => Ok(command),
+            _ => Err(Failure::Usage),
         }
     }
 
@@ -163,7 +149,7 @@ impl Run {
 
     // Puts the bytes of a file of the system.
     pub fn put(&mut self, rt: &HostRuntime, line: &str, file: &str) -> Result<(), Failure> {
-        let content = with_file(file, fs::read(rt, file), rt.alloc())?;
+        let content = fs::read(rt, file).on_file(file, rt.alloc())?;
         let command = match Run::only(rt, line)? {
             Command::Put(name, _) => Command::Put(name, content),
             other => other,
@@ -179,7 +165,7 @@ impl Run {
         };
         let mut room = [0; Disk::LONGEST];
         match read_file(self.session.disk(), &name.bytes, &mut room) {
-            Done::Read(len) => with_file(file, fs::write(rt, file, &room[0..len]), rt.alloc()),
+            Done::Read(len) => fs::write(rt, file, &room[0..len]).on_file(file, rt.alloc()),
             // It says why.
             _ => self.single(rt, &command),
         }

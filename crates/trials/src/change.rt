@@ -1,12 +1,12 @@
 // Changes that are asked of a disk, at random.
-use crate::model::Model;
+use crate::model::{Model, Name};
 use crate::random::Random;
 use std::alloc::{AllocError, Global};
 use std::fmt;
 use update::request::Request;
 
 // The names that come again and again: more than there are entries, some of them with a byte between them.
-pub const NAMES: [[u8; 11]; 20] = [
+pub const NAMES: [Name; 20] = [
     *b"ROSE       ",
     *b"ROSE      \0",
     *b"ROSE      S",
@@ -78,8 +78,7 @@ impl Change {
 
     pub fn name(&self) -> &[u8] {
         match self {
-            Change::Put { name, .. } => name.as_slice(),
-            Change::Away { name } => name.as_slice(),
+            Change::Put { name, .. } | Change::Away { name } => name.as_slice(),
         }
     }
 

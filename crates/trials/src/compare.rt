@@ -1,27 +1,28 @@
 // A disk compared with the files that it should have, as the library reads it and as the machine does.
 use crate::change::NAMES;
 use crate::machine::{LONGEST, Machine};
-use crate::model::{Model, Verdict};
+use crate::model::{Model, Name, Verdict};
 use fsck::judge::first_fault;
 use fsck::usage::blocks_in_use;
 use layout::disk::Disk;
-use layout::name::Name;
+use layout::entry::Entry;
 use reader::read::{entry_of, read_file};
+use std::error::Error;
 use std::fmt;
 use update::answer::Done;
 
 // What is otherwise than it should be.
-#[derive(Drop)]
+#[derive(Debug, Clone, Copy, PartialEq, Eq)]
 pub enum Difference {
     Answer,
     Fault,
     Listing,
     FreeBlocks,
     // Of this name, as the library reads it.
-    File([u8; 11]),
-    Entry([u8; 11]),
+    File(Name),
+    Entry(Name),
     // And as the machine does.
-    MachineFile([u8; 11]),
+    MachineFile(Name),
     // More blocks are changed than power lasted for.
     Writes,
     // The writes of the plan, one by one, leave another disk.
@@ -55,10 +56,12 @@ impl fmt::Display for Difference {
     }
 }
 
+impl Error for Difference {}
+
 // Whether the answer is the one that had to come, with power for so many writes.
 pub fn is_answer(answer: Done, verdict: Verdict, lasts: u64) -> bool {
     match (answer, verdict) {
-        (Done::Refused(refusal), Verdict::Refused(number)) => refusal.number() == number,
+        (Done::Refused(refusal), Verdict::Refused(why)) => refusal.number() == why.number(),
         (Done::Full, Verdict::Full) => true,
         (Done::Finished, Verdict::Begun(writes)) => lasts >= writes,
         (Done::Cut, Verdict::Begun(writes)) => lasts < writes,
@@ -68,54 +71,46 @@ pub fn is_answer(answer: Done, verdict: Verdict, lasts: u64) -> bool {
 
 // How many blocks differ.
 pub fn changed_blocks(before: &[u8], after: &[u8]) -> u64 {
-    let mut n: u64 = 0;
-    for (a, b) in before.chunks(Disk::BLOCK).zip(after.chunks(Disk::BLOCK)) {
-        if a != b {
-            n = n.saturating_add(1);
-        }
-    }
-    n
+    before
+        .chunks(Disk::BLOCK)
+        .zip(after.chunks(Disk::BLOCK))
+        .filter(|(a, b)| a != b)
+        .count() as u64
 }
 
 // The file under the name, in both readings.
 fn compare_file(
     disk: &[u8],
-    name: &[u8; 11],
+    name: &Name,
     expected: Option<&[u8]>,
     room: &mut [u8; LONGEST],
 ) -> Result<(), Difference> {
     let view = Disk::new(disk);
-    let read = match view.lookup(&Name { bytes: *name }) {
-        Some(entry) => view.copy_file(&entry, room).ok(),
-        None => None,
-    };
-    if part(room, read) != expected {
+    let read = view
+        .lookup(&layout::name::Name { bytes: *name })
+        .and_then(|entry| view.copy_file(&entry, room).ok())
+        .and_then(|len| room.get(0..len));
+    if read != expected {
         return Err(Difference::File(*name));
     }
-    let read = Machine::new(disk).read(name, room);
-    if part(room, read) != expected {
+    if Machine::new(disk).read(name, room) != expected {
         return Err(Difference::MachineFile(*name));
     }
     Ok(())
 }
 
-// The first bytes of the room, if so many were read.
-fn part(room: &[u8; LONGEST], read: Option<usize>) -> Option<&[u8]> {
-    room.get(0..read?)
-}
-
 // The file and the entry of the name that was asked for, by the calls that judge the disk themselves.
 fn compare_asked(
     disk: &[u8],
-    name: &[u8; 11],
+    name: &Name,
     expected: Option<&[u8]>,
     room: &mut [u8; LONGEST],
 ) -> Result<(), Difference> {
     let read = match read_file(disk, name, room) {
-        Done::Read(len) => Some(len),
+        Done::Read(len) => room.get(0..len),
         _ => None,
     };
-    if part(room, read) != expected {
+    if read != expected {
         return Err(Difference::File(*name));
     }
     let entry = entry_of(disk, name);
@@ -128,24 +123,25 @@ fn compare_asked(
     Ok(())
 }
 
+// Whether the entry is there and, if it is in use, has a file of the model with its length.
+fn is_listed(entry: Option<Entry>, model: &Model) -> bool {
+    entry.is_some_and(|entry| {
+        !entry.used
+            || model
+                .file(&entry.name.bytes)
+                .is_some_and(|content| content.len() == usize::from(entry.len))
+    })
+}
+
 // The names and lengths of all files.
 fn compare_listing(disk: &[u8], model: &Model) -> Result<(), Difference> {
     let view = Disk::new(disk);
-    let mut n: usize = 0;
-    for i in 0..Disk::ENTRIES {
-        let Some(entry) = view.entry(i) else {
-            return Err(Difference::Listing);
-        };
-        if !entry.used {
-            continue;
-        }
-        n = n.saturating_add(1);
-        match model.file(&entry.name.bytes) {
-            Some(content) if content.len() == usize::from(entry.len) => {}
-            _ => return Err(Difference::Listing),
-        }
-    }
-    if n != model.len() || Machine::new(disk).files() != n {
+    let listed = (0..Disk::ENTRIES).all(|i| is_listed(view.entry(i), model));
+    let used = (0..Disk::ENTRIES)
+        .filter_map(|i| view.entry(i))
+        .filter(|entry| entry.used)
+        .count();
+    if !listed || used != model.len() || Machine::new(disk).files() != used {
         return Err(Difference::Listing);
     }
     Ok(())
@@ -170,18 +166,13 @@ pub fn compare(disk: &[u8], model: &Model, asked: &[u8]) -> Result<u64, Differen
     compare_listing(disk, model)?;
     compare_free(disk, model)?;
     let mut room = [0; LONGEST];
-    let mut n: u64 = 0;
-    if let Ok(name) = <[u8; 11]>::try_from(asked) {
-        compare_asked(disk, &name, model.file(&name), &mut room)?;
-        n = n.saturating_add(1);
+    let asked = Name::try_from(asked).ok();
+    if let Some(name) = &asked {
+        compare_asked(disk, name, model.file(name), &mut room)?;
     }
-    for name in &NAMES {
+    for name in NAMES.iter().chain(model.files.keys()) {
         compare_file(disk, name, model.file(name), &mut room)?;
-        n = n.saturating_add(1);
     }
-    for (name, content) in &model.files {
-        compare_file(disk, name, Some(content.as_slice()), &mut room)?;
-        n = n.saturating_add(1);
-    }
-    Ok(n)
+    let compared = asked.iter().chain(&NAMES).chain(model.files.keys());
+    Ok(compared.count() as u64)
 }

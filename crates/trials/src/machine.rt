@@ -7,6 +7,13 @@ pub struct Machine<'a> {
     disk: &'a [u8],
 }
 
+// At what a disk isn't sound: its size, or the first entry that has a fault.
+#[derive(Debug, Clone, Copy, PartialEq, Eq)]
+pub enum Fault {
+    Size,
+    Entry(usize),
+}
+
 // The most bytes of a file.
 pub const LONGEST: usize = 1024;
 
@@ -19,10 +26,7 @@ impl<'a> Machine<'a> {
     fn byte(&self, at: usize) -> usize
         ensures { result < 256 }
     {
-        match self.disk.get(at) {
-            Some(byte) => usize::from(*byte),
-            None => 0,
-        }
+        self.disk.get(at).map_or(0, |byte| usize::from(*byte))
     }
 
     fn is_used(&self, i: usize) -> bool
@@ -79,12 +83,7 @@ impl<'a> Machine<'a> {
     fn is_named_before(&self, i: usize) -> bool
         requires { i < 16 }
     {
-        for j in 0..i {
-            if self.is_used(j) && self.name(j) == self.name(i) {
-                return true;
-            }
-        }
-        false
+        (0..i).any(|j| self.is_used(j) && self.name(j) == self.name(i))
     }
 
     fn is_sound_entry(&self, i: usize, taken: &mut [bool; 256]) -> bool
@@ -97,16 +96,17 @@ impl<'a> Machine<'a> {
         }
     }
 
-    // The first entry at which the disk isn't sound, or 16 for its size.
-    pub fn fault(&self) -> Option<usize> {
+    // Why the disk isn't sound, if it isn't.
+    pub fn fault(&self) -> Option<Fault> {
         let blocks = self.disk.len() / 64;
         if self.disk.len() % 64 != 0 || blocks < 9 || blocks > 250 {
-            return Some(16);
+            return Some(Fault::Size);
         }
         let mut taken = [false; 256];
+        // A loop, and no `find`: each entry adds its blocks to those that are taken for the next.
         for i in 0..16 {
             if !self.is_sound_entry(i, &mut taken) {
-                return Some(i);
+                return Some(Fault::Entry(i));
             }
         }
         None
@@ -116,16 +116,11 @@ impl<'a> Machine<'a> {
     fn find(&self, name: &[u8]) -> Option<usize>
         ensures { IfSome result (λ i. i < 16) }
     {
-        for i in 0..16 {
-            if self.is_used(i) && self.name(i) == Some(name) {
-                return Some(i);
-            }
-        }
-        None
+        (0..16).find(|i| self.is_used(*i) && self.name(*i) == Some(name))
     }
 
-    // Puts the file's bytes into the room, and answers how many they are.
-    pub fn read(&self, name: &[u8], room: &mut [u8; LONGEST]) -> Option<usize> {
+    // The file's bytes, once they are in the room; nothing where there is no file, or where it has more bytes than the room.
+    pub fn read<'r>(&self, name: &[u8], room: &'r mut [u8; LONGEST]) -> Option<&'r [u8]> {
         let i = self.find(name)?;
         for k in 0..self.filled(i).min(16) {
             let from = 64 * self.block(i, k);
@@ -133,28 +128,19 @@ impl<'a> Machine<'a> {
                 room[64 * k..64 * k + 64].copy_from_slice(block);
             }
         }
-        Some(self.len(i))
+        room.get(0..self.len(i))
     }
 
     // How many files there are.
     pub fn files(&self) -> usize {
-        let mut n: usize = 0;
-        for i in 0..16 {
-            if self.is_used(i) {
-                n = n.saturating_add(1);
-            }
-        }
-        n
+        (0..16).filter(|i| self.is_used(*i)).count()
     }
 
     // How many blocks they fill.
     pub fn blocks(&self) -> usize {
-        let mut n: usize = 0;
-        for i in 0..16 {
-            if self.is_used(i) {
-                n = n.saturating_add(self.filled(i));
-            }
-        }
-        n
+        (0..16)
+            .filter(|i| self.is_used(*i))
+            .map(|i| self.filled(i))
+            .fold(0, usize::saturating_add)
     }
 }

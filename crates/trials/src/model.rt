@@ -3,13 +3,17 @@ use crate::change::Change;
 use crate::machine::LONGEST;
 use std::alloc::{AllocError, Global};
 use std::collections::BTreeMap;
+use update::answer::Refusal;
+
+// A file's name: eleven bytes, whatever they are.
+pub type Name = [u8; 11];
 
 // The most files of a disk.
 const MOST: usize = 16;
 
 #[derive(Drop)]
 pub struct Model {
-    pub files: BTreeMap<[u8; 11], Vec<u8>>,
+    pub files: BTreeMap<Name, Vec<u8>>,
     // The blocks for files, free or not.
     blocks: usize,
 }
@@ -17,8 +21,7 @@ pub struct Model {
 // What has to come of a change.
 #[derive(Clone, Copy)]
 pub enum Verdict {
-    // Refused, with this number.
-    Refused(usize),
+    Refused(Refusal),
     Full,
     // Begun, with so many writes to make.
     Begun(u64),
@@ -41,37 +44,33 @@ impl Model {
         self.files.len()
     }
 
-    pub fn nth_name(&self, n: usize) -> Option<&[u8; 11]> {
+    pub fn nth_name(&self, n: usize) -> Option<&Name> {
         self.files.keys().nth(n)
     }
 
     // The file under these eleven bytes.
-    pub fn file(&self, name: &[u8; 11]) -> Option<&[u8]> {
-        match self.files.get(name) {
-            Some(content) => Some(content.as_slice()),
-            None => None,
-        }
+    pub fn file(&self, name: &Name) -> Option<&[u8]> {
+        self.files.get(name).map(|content| content.as_slice())
     }
 
     // How many blocks are free.
     pub fn free(&self) -> usize {
-        let mut free = self.blocks;
-        for content in self.files.values() {
-            free = free.saturating_sub(blocks_of(content.as_slice()));
-        }
-        free
+        self.files
+            .values()
+            .map(|content| blocks_of(content.as_slice()))
+            .fold(self.blocks, usize::saturating_sub)
     }
 
     pub fn verdict(&self, change: &Change) -> Verdict {
-        let Ok(name) = <[u8; 11]>::try_from(change.name()) else {
-            return Verdict::Refused(2);
+        let Ok(name) = Name::try_from(change.name()) else {
+            return Verdict::Refused(Refusal::BadName);
         };
         let there = self.files.contains_key(&name);
         match change {
             Change::Away { .. } => Verdict::Begun(u64::from(there)),
             Change::Put { content, .. } => {
                 if content.len() > LONGEST {
-                    return Verdict::Refused(3);
+                    return Verdict::Refused(Refusal::TooLong);
                 }
                 let needed = blocks_of(content.as_slice());
                 if needed > self.free() || !there && self.len() >= MOST {
@@ -84,7 +83,7 @@ impl Model {
 
     // Makes the change, and gives the file that was there under its name.
     pub fn make(&mut self, heap: Global, change: &Change) -> Result<Option<Vec<u8>>, AllocError> {
-        let Ok(name) = <[u8; 11]>::try_from(change.name()) else {
+        let Ok(name) = Name::try_from(change.name()) else {
             return Ok(None);
         };
         match change {
@@ -98,7 +97,7 @@ impl Model {
 
     // Takes the change back: what was there before is there again.
     pub fn undo(&mut self, change: &Change, before: Option<Vec<u8>>) -> Result<(), AllocError> {
-        let Ok(name) = <[u8; 11]>::try_from(change.name()) else {
+        let Ok(name) = Name::try_from(change.name()) else {
             return Ok(());
         };
         match before {

@@ -40,7 +40,7 @@ impl Random {
 
     // Fills the bytes.
     pub fn fill(&mut self, bytes: &mut [u8]) {
-        for byte in bytes.iter_mut() {
+        for byte in bytes {
             *byte = self.byte();
         }
     }

@@ -24,7 +24,7 @@ const LIFE: u64 = 100;
 const PRINTED: u64 = 10;
 
 // What was tried.
-#[derive(Clone, Copy)]
+#[derive(Debug, Clone, Copy, Default)]
 pub struct Counts {
     pub requests: u64,
     pub cuts: u64,
