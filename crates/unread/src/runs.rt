@@ -23,6 +23,19 @@ pub struct Runs<'a> {
     ghost ready: { Ready disk.bytes.now at },
 }
 
+impl<'a> Runs<'a> {
+    // The runs of the disk, from its first place on.
+    #[tactic(auto, using(crate::proofs::Completeness::complete, crate::proofs::Stepping::just_these))]
+    pub fn of(disk: SoundDisk<'a>) -> Runs<'a>
+        ensures disk { result.disk.bytes ≡ disk.entry.bytes }
+        ensures at { result.at ≡ 0 }
+        ensures covers { JustThese (unread disk.entry.bytes.now) }
+        ensures complete { Complete disk.entry.bytes.now }
+    {
+        Runs { disk, at: 0 }
+    }
+}
+
 // The runs of unread places of the disk, from its first on. A disk that isn't sound is refused with its first fault.
 #[tactic(auto, using(crate::proofs::Completeness::complete, crate::proofs::Refusals::refused_place, crate::proofs::Stepping::just_these))]
 pub fn unread_runs<'a>(disk: &'a [u8]) -> Result<Runs<'a>, Fault>
@@ -33,7 +46,7 @@ pub fn unread_runs<'a>(disk: &'a [u8]) -> Result<Runs<'a>, Fault>
     ensures complete { Complete disk.now }
 {
     let disk = SoundDisk::check(disk)?;
-    Ok(Runs { disk, at: 0 })
+    Ok(Runs::of(disk))
 }
 
 // The first place from `at` on that is unread, or the first that is read; or the disk's end.
