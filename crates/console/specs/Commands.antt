@@ -8,6 +8,7 @@ use Rattle.console.specs.declared.verb.Verb.{Verb}
 use Rattle.console.specs.declared.verb.Verb.TheVariants.{Away, Check, Disk, Entry, List as Listing, Map, Power, Put, Read, Unread}
 use Rattle.console.specs.declared.command.Command.{Command}
 use Rattle.console.specs.declared.command.Command.TheVariants as c
+use Rattle.console.specs.declared.command.Question.TheVariants as q
 use Rattle.console.specs.declared.line.Unreadable as u
 use Rattle.console.specs.Lines.{lines}
 use Rattle.console.specs.Words.{without_return, trimmed, word, behind}
@@ -35,12 +36,12 @@ said (c.Disk n l) = disk n l
 said (c.Power n) = power n
 said (c.Put x bs) = put x (vec_items bs)
 said (c.Away x) = away x
-said (c.Read x) = read x
-said (c.Entry x) = entry x
-said c.List = list
-said c.Check = check
-said c.Unread = unread
-said c.Map = map_of
+said (c.Ask (q.Read x)) = read x
+said (c.Ask (q.Entry x)) = entry x
+said (c.Ask q.List) = list
+said (c.Ask q.Check) = check
+said (c.Ask q.Unread) = unread
+said (c.Ask q.Map) = map_of
 said (c.Bad v q p) = bad v q p
 
 -- a line without what ends it and without the blanks around it

@@ -3,6 +3,17 @@ use crate::verb::Verb;
 use layout::name::Name;
 use update::answer::Refusal;
 
+// What is asked about a disk, and changes nothing.
+#[derive(Clone, Copy, Debug, PartialEq, Eq)]
+pub enum Question {
+    Read(Name),
+    Entry(Name),
+    List,
+    Check,
+    Unread,
+    Map,
+}
+
 #[derive(Drop)]
 pub enum Command {
     // A new disk of so many blocks, asked for on this line.
@@ -14,12 +25,7 @@ pub enum Command {
     Power(u64),
     Put(Name, Vec<u8>),
     Away(Name),
-    Read(Name),
-    Entry(Name),
-    List,
-    Check,
-    Unread,
-    Map,
+    Ask(Question),
     // A line that can't be obeyed: the command that it begins with, if it begins with one, why, and at which place.
     Bad {
         verb: Option<Verb>,

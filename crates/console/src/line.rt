@@ -6,7 +6,7 @@ ghost use Rattle.console.specs.Commands.{said, name_of, alone, items_or_line, as
 ghost use Rattle.console.specs.Parsed.{NameRead, LineAsks};
 ghost use Rattle.console.specs.declared.line.LineError.TheVariants as error;
 
-use crate::command::Command;
+use crate::command::{Command, Question};
 use crate::escape::{NameTooLong, fill_name, unescape};
 use crate::number::parse_decimal;
 use crate::verb::Verb;
@@ -100,18 +100,18 @@ impl Line<'_> {
         ensures { LineAsks self.now.verb result (asks self.now.verb self.now.number self.now.rest.now (items_or_line vec_items body)) }
     {
         match self.verb {
-            Verb::Check => self.alone(Command::Check),
-            Verb::List => self.alone(Command::List),
-            Verb::Map => self.alone(Command::Map),
-            Verb::Unread => self.alone(Command::Unread),
+            Verb::Check => self.alone(Command::Ask(Question::Check)),
+            Verb::List => self.alone(Command::Ask(Question::List)),
+            Verb::Map => self.alone(Command::Ask(Question::Map)),
+            Verb::Unread => self.alone(Command::Ask(Question::Unread)),
             Verb::Disk => Ok(Command::Disk {
                 blocks: self.decimal()?,
                 line: self.number,
             }),
             Verb::Power => Ok(Command::Power(self.decimal()?)),
             Verb::Away => Ok(Command::Away(self.name(heap)?)),
-            Verb::Entry => Ok(Command::Entry(self.name(heap)?)),
-            Verb::Read => Ok(Command::Read(self.name(heap)?)),
+            Verb::Entry => Ok(Command::Ask(Question::Entry(self.name(heap)?))),
+            Verb::Read => Ok(Command::Ask(Question::Read(self.name(heap)?))),
             Verb::Put => Ok(Command::Put(self.name(heap)?, body?)),
         }
     }
