@@ -7,6 +7,7 @@ use Rattle.console.specs.declared.escape.NameTooLong.{NameTooLong}
 use Rattle.console.specs.declared.verb.Verb.{Verb}
 use Rattle.console.specs.declared.verb.Verb.TheVariants.{Away, Check, Disk, Entry, List as Listing, Map, Power, Put, Read, Unread}
 use Rattle.console.specs.declared.command.Command.{Command}
+use Rattle.console.specs.declared.command.Question.{Question}
 use Rattle.console.specs.declared.command.Command.TheVariants as c
 use Rattle.console.specs.declared.command.Question.TheVariants as q
 use Rattle.console.specs.declared.line.Unreadable as u
@@ -31,17 +32,21 @@ pub data Said : Type 0 where
   map_of : Said
   bad : Option Verb → Refusal → ℕ → Said
 
+-- what is asked about a disk
+abbrev pub said_of : Question → Said
+said_of (q.Read x) = read x
+said_of (q.Entry x) = entry x
+said_of q.List = list
+said_of q.Check = check
+said_of q.Unread = unread
+said_of q.Map = map_of
+
 abbrev pub said : Command → Said
 said (c.Disk n l) = disk n l
 said (c.Power n) = power n
 said (c.Put x bs) = put x (vec_items bs)
 said (c.Away x) = away x
-said (c.Ask (q.Read x)) = read x
-said (c.Ask (q.Entry x)) = entry x
-said (c.Ask q.List) = list
-said (c.Ask q.Check) = check
-said (c.Ask q.Unread) = unread
-said (c.Ask q.Map) = map_of
+said (c.Ask q) = said_of q
 said (c.Bad v q p) = bad v q p
 
 -- a line without what ends it and without the blanks around it

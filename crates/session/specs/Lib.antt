@@ -1,4 +1,5 @@
 pub mod Printed
 pub mod Obeyed
 pub mod Kept
+pub mod Answered
 pub mod Prints

@@ -1,18 +1,22 @@
 // Files, entries, unread places and blocks of a sound disk, as they are printed.
-ghost use Rattle.std.specs.Prelude.{◌≡◌, true, List, ◌++◌, OnOk};
+ghost use Rattle.std.specs.Prelude.{◌≡◌, List, ◌++◌, ◌&&◌, position, OnOk, IfOk};
 ghost use Rattle.std.specs.declared.ops.Range.{Range};
-ghost use Rattle.layout.specs.Files.{held, file};
-ghost use Rattle.fsck.specs.Sound.{sound};
+ghost use Rattle.layout.specs.Entries.{blocks_of};
+ghost use Rattle.layout.specs.Files.{entries, file};
+ghost use Rattle.fsck.specs.Blocks.{has};
 ghost use Rattle.unread.specs.Unread.{unread};
 ghost use Rattle.unread.specs.Runs.{Listed};
 ghost use Rattle.session.specs.Printed.{file_line, files_from, read_text, entry_text, shown_ranges, block_char, map_text};
+ghost use Rattle.session.specs.Answered.{read_answer, entry_answer};
 
 use console::show::{push_bytes, push_name, push_number};
+use fsck::sound_disk::SoundDisk;
 use layout::disk::Disk;
+use layout::entry::Entry;
 use layout::name::Name;
 use reader::read::{entry_of, read_file};
 use std::alloc::AllocError;
-use unread::runs::unread_runs;
+use unread::runs::Runs;
 use update::answer::Done;
 
 // How many blocks the map has to a line.
@@ -29,15 +33,10 @@ fn push_file_line(out: &mut Vec<u8>, name: &Name, len: usize) -> Result<(), Allo
 }
 
 // The files, in the order of entries.
-pub(crate) fn push_files(out: &mut Vec<u8>, disk: &[u8]) -> Result<(), AllocError>
-    requires { sound disk.now ≡ true }
-    ensures { OnOk result (out.new.items ≡ out.old.items ++ files_from disk.now 0 16) }
+pub(crate) fn push_files(out: &mut Vec<u8>, disk: SoundDisk<'_>) -> Result<(), AllocError>
+    ensures { OnOk result (out.new.items ≡ out.old.items ++ files_from disk.entry.bytes.now 0 16) }
 {
-    let view = Disk::new(disk);
-    for i in 0..Disk::ENTRIES {
-        let Some(entry) = view.entry(i) else {
-            continue;
-        };
+    for entry in &disk.entries() {
         if entry.used {
             push_file_line(out, &entry.name, usize::from(entry.len))?;
         }
@@ -45,42 +44,50 @@ pub(crate) fn push_files(out: &mut Vec<u8>, disk: &[u8]) -> Result<(), AllocErro
     Ok(())
 }
 
-// The file under the name.
-pub(crate) fn push_file(out: &mut Vec<u8>, disk: &[u8], name: &Name) -> Result<(), AllocError>
-    requires { sound disk.now ≡ true }
-    ensures { OnOk result (out.new.items ≡ out.old.items ++ read_text name.now.bytes (file disk.now name.now.bytes)) }
+// The file under the name, and how many bytes it has; or that there is none.
+pub(crate) fn push_file(
+    out: &mut Vec<u8>,
+    disk: SoundDisk<'_>,
+    name: &Name,
+) -> Result<Done, AllocError>
+    ensures text { OnOk result (out.new.items ≡ out.old.items ++ read_text name.now.bytes (file disk.entry.bytes.now name.now.bytes)) }
+    ensures answer { IfOk result (λ done. done ≡ read_answer (file disk.entry.bytes.now name.now.bytes)) }
 {
     let mut room = [0; Disk::LONGEST];
-    match read_file(disk, &name.bytes, &mut room) {
+    let answer = read_file(disk.bytes(), &name.bytes, &mut room);
+    match answer {
         Done::Read(len) => {
             push_file_line(out, name, len)?;
-            push_bytes(out, &room[0..len])
+            push_bytes(out, &room[0..len])?;
         }
-        _ => out.extend_from_slice(b"none\n"),
+        _ => out.extend_from_slice(b"none\n")?,
     }
+    Ok(answer)
 }
 
-// The bytes of the entry of the name.
-pub(crate) fn push_entry(out: &mut Vec<u8>, disk: &[u8], name: &Name) -> Result<(), AllocError>
-    requires { sound disk.now ≡ true }
-    ensures { OnOk result (out.new.items ≡ out.old.items ++ entry_text disk.now name.now.bytes) }
+// The bytes of the entry of the name; or that there is none.
+pub(crate) fn push_entry(
+    out: &mut Vec<u8>,
+    disk: SoundDisk<'_>,
+    name: &Name,
+) -> Result<Done, AllocError>
+    ensures text { OnOk result (out.new.items ≡ out.old.items ++ entry_text disk.entry.bytes.now name.now.bytes) }
+    ensures answer { IfOk result (λ done. done ≡ entry_answer disk.entry.bytes.now name.now.bytes) }
 {
-    let entry = entry_of(disk, &name.bytes);
+    let entry = entry_of(disk.bytes(), &name.bytes);
     if entry.is_empty() {
-        return out.extend_from_slice(b"none\n");
+        out.extend_from_slice(b"none\n")?;
+        return Ok(Done::Absent);
     }
-    push_bytes(out, entry)
+    push_bytes(out, entry)?;
+    Ok(Done::Finished)
 }
 
 // A line with the first and the last place of each run of unread places.
-pub(crate) fn push_unread(out: &mut Vec<u8>, disk: &[u8]) -> Result<(), AllocError>
-    requires { sound disk.now ≡ true }
-    ensures { OnOk result ((rs : List (Range _)) × Listed (unread disk.now) 0 rs × (out.new.items ≡ out.old.items ++ shown_ranges rs)) }
+pub(crate) fn push_unread(out: &mut Vec<u8>, disk: SoundDisk<'_>) -> Result<(), AllocError>
+    ensures { OnOk result ((rs : List (Range _)) × Listed (unread disk.entry.bytes.now) 0 rs × (out.new.items ≡ out.old.items ++ shown_ranges rs)) }
 {
-    let Ok(runs) = unread_runs(disk) else {
-        return Ok(());
-    };
-    for run in runs {
+    for run in Runs::of(disk) {
         push_number(out, run.start as u64)?;
         out.extend_from_slice(b" ")?;
         push_number(out, run.end.saturating_sub(1) as u64)?;
@@ -89,34 +96,35 @@ pub(crate) fn push_unread(out: &mut Vec<u8>, disk: &[u8]) -> Result<(), AllocErr
     Ok(())
 }
 
+// The place of the first of these entries whose file has the block.
+fn owner(entries: &[Entry], block: u8) -> Option<usize>
+    ensures { result ≡ position (λ e. e.used && has (blocks_of e) block) entries.now }
+{
+    entries
+        .iter()
+        .position(|entry| entry.used && entry.file_blocks().contains(&block))
+}
+
 // The character of a block: `#` for the first eight, which hold the entries, a letter for one of a file, a dot for a free one.
-fn block_char(disk: Disk<'_>, block: u8) -> u8
-    requires { sound (held disk) ≡ true }
-    ensures { result ≡ block_char (held disk.entry) block }
+fn block_char(disk: SoundDisk<'_>, block: u8) -> u8
+    ensures { result ≡ block_char disk.entry.bytes.now block }
 {
     if usize::from(block) < Disk::ENTRY_BLOCKS {
         return b'#';
     }
-    for i in 0..Disk::ENTRIES as u8 {
-        let Some(entry) = disk.entry(usize::from(i)) else {
-            continue;
-        };
-        if entry.used && entry.file_blocks().contains(&block) {
-            return b'a' + i;
-        }
+    match owner(&disk.entries(), block) {
+        Some(i) => b'a' + i as u8,
+        None => b'.',
     }
-    b'.'
 }
 
 // A character for each block.
-pub(crate) fn push_map(out: &mut Vec<u8>, disk: &[u8]) -> Result<(), AllocError>
-    requires { sound disk.now ≡ true }
-    ensures { OnOk result (out.new.items ≡ out.old.items ++ map_text disk.now) }
+pub(crate) fn push_map(out: &mut Vec<u8>, disk: SoundDisk<'_>) -> Result<(), AllocError>
+    ensures { OnOk result (out.new.items ≡ out.old.items ++ map_text disk.entry.bytes.now) }
 {
-    let view = Disk::new(disk);
-    let blocks = disk.len() / Disk::BLOCK;
+    let blocks = disk.blocks();
     for block in 0..blocks {
-        out.push(block_char(view, block as u8))?;
+        out.push(block_char(disk, block as u8))?;
         if block % MAP_LINE == MAP_LINE - 1 || block + 1 == blocks {
             out.push(b'\n')?;
         }

@@ -1,22 +1,26 @@
 // A disk in memory, and commands obeyed on it.
-ghost use Rattle.std.specs.Prelude.{◌≡◌, ℕ, true, ◌++◌, IfNone, IfOk, if◌then◌else◌, None, Option, OnOk};
-ghost use Rattle.fsck.specs.Sound.{sound};
+ghost use Rattle.std.specs.Prelude.{◌≡◌, ℕ, ◌++◌, IfOk, if◌then◌else◌, None, Option, OnOk};
+ghost use Rattle.fsck.specs.Sound.{first_fault};
+ghost use Rattle.update.specs.declared.answer.Done.TheVariants.{Refused};
 ghost use Rattle.update.specs.Asking.{asked};
-ghost use Rattle.console.specs.Commands.{said};
+ghost use Rattle.console.specs.Commands.{said, said_of, bad};
 ghost use Rattle.session.specs.Kept.{Kept, StoppedAt};
-ghost use Rattle.session.specs.Obeyed.{lasting, uses_power, judges, fault_of, size_fits, new_disk, made_writes, asked_of, disk_after, power_after, writes_of};
-ghost use Rattle.session.specs.Prints.{RequestPrints, Shown, Shows, Prints, Behind};
+ghost use Rattle.session.specs.Obeyed.{lasting, uses_power, judging, size_fits, new_disk, made_writes, asked_of, disk_after, power_after, writes_of};
+ghost use Rattle.session.specs.Printed.{refused_line};
+ghost use Rattle.session.specs.Prints.{RequestPrints, Shows, ShowsIf, Prints, Behind};
+ghost use Rattle.session.specs.Answered.{RequestAnswers, AnswersOf, AnswersIf, Answers};
 
 use crate::answers::{push_answer, push_refused};
 use crate::listing::{push_entry, push_file, push_files, push_map, push_unread};
-use console::command::Command;
+use console::command::{Command, Question};
 use console::verb::Verb;
 use fsck::fault::Fault;
 use fsck::judge::first_fault;
+use fsck::sound_disk::SoundDisk;
 use layout::disk::Disk;
 use layout::name::Name;
 use std::alloc::AllocError;
-use update::answer::Refusal;
+use update::answer::{Done, Refusal};
 use update::plan::Plan;
 use update::request::{Request, perform};
 use update::write::Write;
@@ -34,27 +38,16 @@ fn uses_power(command: &Command) -> bool
 {
     match command {
         Command::Put(..) | Command::Away(_) => true,
-        Command::Bad {
-            verb: Some(verb),
-            ..
-        } => matches!(verb, Verb::Put | Verb::Away),
+        Command::Bad { verb, .. } => matches!(verb, Some(Verb::Put | Verb::Away)),
         _ => false,
     }
 }
 
-// Whether the disk is judged before the line is looked at.
-fn is_judged(command: &Command) -> bool
-    ensures { result ≡ judges (said command.now) }
+// Whether the disk is judged before a line that begins with this word, or with none, is looked at.
+fn is_judged(verb: Option<Verb>) -> bool
+    ensures { result ≡ judging verb }
 {
-    match command {
-        Command::Disk { .. } | Command::Power(_) => false,
-        Command::Bad {
-            verb: Some(verb),
-            ..
-        } => !matches!(verb, Verb::Disk | Verb::Power),
-        Command::Bad { verb: None, .. } => false,
-        _ => true,
-    }
+    !matches!(verb, None | Some(Verb::Disk | Verb::Power))
 }
 
 // Puts the writes that the request will make behind the others.
@@ -64,16 +57,70 @@ fn log_writes(disk: &[u8], request: Request<'_>, log: &mut Vec<Write>) -> Result
     let Ok(plan) = Plan::of(disk, request) else {
         return Ok(());
     };
-    let lasts = request.lasts();
-    let mut k = 0;
-    while let Some(write) = plan.write(k) {
-        if k as u64 >= lasts {
+    let mut power = request.lasts();
+    for write in plan.writes() {
+        if power == 0 {
             break;
         }
+        power -= 1;
         log.push(write)?;
-        k += 1;
     }
     Ok(())
+}
+
+// Prints the refusal, and answers it.
+fn refuse(out: &mut Vec<u8>, why: Refusal, place: usize) -> Result<Done, AllocError>
+    ensures text { OnOk result (out.new.items ≡ out.old.items ++ refused_line why place) }
+    ensures answer { IfOk result (λ done. done ≡ Refused why) }
+{
+    push_refused(out, why, place)?;
+    Ok(Done::Refused(why))
+}
+
+// Prints what is asked about the disk, and answers it.
+fn show(disk: SoundDisk<'_>, question: Question, out: &mut Vec<u8>) -> Result<Done, AllocError>
+    ensures text { OnOk result ((p : Option ℕ) → Behind out.old.items out.new.items (Shows disk.entry.bytes.now p (said_of question))) }
+    ensures answer { IfOk result (λ done. (p : Option ℕ) → AnswersOf disk.entry.bytes.now p (said_of question) done) }
+{
+    match question {
+        Question::Read(name) => return push_file(out, disk, &name),
+        Question::Entry(name) => return push_entry(out, disk, &name),
+        Question::List => push_files(out, disk)?,
+        Question::Check => out.extend_from_slice(b"sound\n")?,
+        Question::Unread => push_unread(out, disk)?,
+        Question::Map => push_map(out, disk)?,
+    }
+    Ok(Done::Finished)
+}
+
+// The same of a disk that is judged first: where it isn't sound, it is refused for that.
+fn show_judged(disk: &[u8], question: Question, out: &mut Vec<u8>) -> Result<Done, AllocError>
+    ensures text { OnOk result ((p : Option ℕ) → Behind out.old.items out.new.items (Prints disk.now p (said_of question))) }
+    ensures answer { IfOk result (λ done. (p : Option ℕ) → Answers disk.now p (said_of question) done) }
+{
+    match SoundDisk::check(disk) {
+        Ok(disk) => show(disk, question, out),
+        Err(fault) => refuse(out, Refusal::Unsound, fault.place()),
+    }
+}
+
+// Refuses a line that can't be obeyed: for the disk, where it is judged first and isn't sound, or else for this reason.
+fn refuse_line(
+    disk: &[u8],
+    verb: Option<Verb>,
+    why: Refusal,
+    place: usize,
+    out: &mut Vec<u8>,
+) -> Result<Done, AllocError>
+    ensures text { OnOk result ((p : Option ℕ) → Behind out.old.items out.new.items (Prints disk.now p (bad verb why place))) }
+    ensures answer { IfOk result (λ done. (p : Option ℕ) → Answers disk.now p (bad verb why place) done) }
+{
+    if is_judged(verb)
+        && let Some(fault) = first_fault(disk)
+    {
+        return refuse(out, Refusal::Unsound, fault.place());
+    }
+    refuse(out, why, place)
 }
 
 impl Session {
@@ -103,24 +150,12 @@ impl Session {
         lasts
     }
 
-    // The first fault of the disk, if it has one and is judged for the command.
-    fn fault(&self, command: &Command) -> Option<usize>
-        ensures value { result ≡ fault_of self.now.disk.items (said command.now) }
-        ensures judged { IfNone result (judges (said command.now) ≡ true → sound self.now.disk.items ≡ true) }
-    {
-        if is_judged(command) {
-            first_fault(self.disk.as_slice()).map(Fault::place)
-        } else {
-            None
-        }
-    }
-
-    // A new disk of zeros, in the place of the one that was there.
+    // A new disk of zeros, in the place of the one that was there, if a disk may have so many blocks.
     fn make_disk(&mut self, blocks: u64) -> Result<bool, AllocError>
         ensures ok { IfOk result (λ b. (b ≡ size_fits blocks) × (self.new.disk.items ≡ new_disk self.old.disk.items blocks)) }
         ensures power { self.new.power ≡ self.old.power }
     {
-        if blocks < Disk::LEAST as u64 || blocks > Disk::MOST as u64 {
+        if !(Disk::LEAST as u64..=Disk::MOST as u64).contains(&blocks) {
             return Ok(false);
         }
         let len = blocks as usize * Disk::BLOCK;
@@ -129,70 +164,55 @@ impl Session {
         Ok(true)
     }
 
-    // Performs the request, and prints what came of it; a refusal, with this place. The writes that it made are put behind the others.
+    // Performs the request, prints what came of it, and answers that: where the disk isn't sound, that it is refused for its first fault; a refusal for another reason is printed with this place. The writes that it made are put behind the others.
     fn ask(
         &mut self,
         request: Request<'_>,
         place: usize,
         out: &mut Vec<u8>,
         log: &mut Vec<Write>,
-    ) -> Result<(), AllocError>
+    ) -> Result<Done, AllocError>
         ensures disk { OnOk result (self.new.disk.items ≡ asked_of self.old.disk.items (asked request.entry)) }
         ensures power { self.new.power ≡ self.old.power }
         ensures log { OnOk result (log.new.items ≡ log.old.items ++ made_writes self.old.disk.items (asked request.entry)) }
-        ensures out { OnOk result (Behind out.old.items out.new.items (RequestPrints self.old.disk.items (asked request.entry) place)) }
+        ensures out { OnOk result (Behind out.old.items out.new.items (λ t. ShowsIf (first_fault self.old.disk.items) t (RequestPrints self.old.disk.items (asked request.entry) place t))) }
+        ensures answer { IfOk result (λ done. AnswersIf (first_fault self.old.disk.items) done (RequestAnswers self.old.disk.items (asked request.entry) done)) }
     {
+        if let Some(fault) = first_fault(self.disk.as_slice()) {
+            return refuse(out, Refusal::Unsound, fault.place());
+        }
         log_writes(self.disk.as_slice(), request, log)?;
         let answer = perform(self.disk.as_mut_slice(), request);
-        push_answer(out, answer, place)
+        push_answer(out, answer, place)?;
+        Ok(answer)
     }
 
-    // Prints what the command asks for on a disk that was judged, and leaves all else as it is.
-    fn show(&self, command: &Command, out: &mut Vec<u8>) -> Result<(), AllocError>
-        requires { judges (said command.now) ≡ true → sound self.now.disk.items ≡ true }
-        ensures { OnOk result (Shown command.now → (p : Option ℕ) → Behind out.old.items out.new.items (Shows self.now.disk.items p (said command.now))) }
-    {
-        let disk = self.disk.as_slice();
-        match command {
-            Command::Read(name) => push_file(out, disk, name),
-            Command::Entry(name) => push_entry(out, disk, name),
-            Command::List => push_files(out, disk),
-            Command::Check => out.extend_from_slice(b"sound\n"),
-            Command::Unread => push_unread(out, disk),
-            Command::Map => push_map(out, disk),
-            Command::Bad { why, place, .. } => push_refused(out, *why, *place),
-            _ => Ok(()),
-        }
-    }
-
-    // Obeys the command: prints what it asks for behind what was printed before, and puts the writes that it made behind the others.
+    // Obeys the command: prints what it asks for behind what was printed before, puts the writes that it made behind the others, and answers what came of it.
     pub fn obey(
         &mut self,
         command: &Command,
         out: &mut Vec<u8>,
         log: &mut Vec<Write>,
-    ) -> Result<(), AllocError>
+    ) -> Result<Done, AllocError>
         ensures disk { OnOk result (self.new.disk.items ≡ disk_after self.old.disk.items self.old.power (said command.now)) }
         ensures power { OnOk result (self.new.power ≡ power_after self.old.power (said command.now)) }
         ensures log { OnOk result (log.new.items ≡ log.old.items ++ writes_of self.old.disk.items self.old.power (said command.now)) }
         ensures out { OnOk result (Behind out.old.items out.new.items (Prints self.old.disk.items self.old.power (said command.now))) }
         ensures stopped { OnOk result (StoppedAt (said command.now) self.old.disk.items (writes_of self.old.disk.items self.old.power (said command.now)) self.new.disk.items) }
         ensures promise { OnOk result (Kept self.old.disk.items self.old.power (said command.now) self.new.disk.items) }
+        ensures answer { IfOk result (λ done. Answers self.old.disk.items self.old.power (said command.now) done) }
     {
         let lasts = self.take_power(command);
-        if let Some(place) = self.fault(command) {
-            return push_refused(out, Refusal::Unsound, place);
-        }
         match command {
             Command::Disk { blocks, .. } => {
                 if self.make_disk(*blocks)? {
-                    return Ok(());
+                    return Ok(Done::Finished);
                 }
-                push_refused(out, Refusal::Unsound, Disk::ENTRIES)
+                refuse(out, Refusal::Unsound, Fault::Size.place())
             }
             Command::Power(writes) => {
                 self.power = Some(*writes);
-                Ok(())
+                Ok(Done::Finished)
             }
             Command::Put(name, content) => {
                 let content = content.as_slice();
@@ -210,7 +230,10 @@ impl Session {
                 };
                 self.ask(request, Name::SIZE, out, log)
             }
-            _ => self.show(command, out),
+            Command::Ask(question) => show_judged(self.disk.as_slice(), *question, out),
+            Command::Bad { verb, why, place } => {
+                refuse_line(self.disk.as_slice(), *verb, *why, *place, out)
+            }
         }
     }
 }
