@@ -57,16 +57,7 @@ fn log_writes(disk: &[u8], request: Request<'_>, log: &mut Vec<Write>) -> Result
     let Ok(plan) = Plan::of(disk, request) else {
         return Ok(());
     };
-    let lasts = request.lasts();
-    let mut k = 0;
-    while let Some(write) = plan.write(k) {
-        if k as u64 >= lasts {
-            break;
-        }
-        log.push(write)?;
-        k += 1;
-    }
-    Ok(())
+    log.extend(plan.writes().take(request.lasts() as usize))
 }
 
 impl Session {
