@@ -1,7 +1,6 @@
 pub mod Asking
 pub mod Entries
 pub mod Keeping
-pub mod Logging
 pub mod Named
 pub mod Obeying
 pub mod Ranges

@@ -57,15 +57,7 @@ fn log_writes(disk: &[u8], request: Request<'_>, log: &mut Vec<Write>) -> Result
     let Ok(plan) = Plan::of(disk, request) else {
         return Ok(());
     };
-    let mut power = request.lasts();
-    for write in plan.writes() {
-        if power == 0 {
-            break;
-        }
-        power -= 1;
-        log.push(write)?;
-    }
-    Ok(())
+    log.extend(plan.writes().take(request.lasts() as usize))
 }
 
 // Prints the refusal, and answers it.
