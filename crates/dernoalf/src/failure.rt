@@ -3,6 +3,7 @@ use std::alloc::{AllocError, Global};
 use std::error::Error;
 use std::str::from_utf8;
 use std::{fmt, io};
+use update::answer::{Done, Refusal};
 
 #[derive(Debug, Drop)]
 pub enum Failure {
@@ -11,8 +12,8 @@ pub enum Failure {
     System(String, io::Error),
     // With standard input or output.
     Stream(io::Error),
-    // The command was not done, and this was printed in place.
-    NotDone(Vec<u8>),
+    // The command was not done: what it answered, and what it printed.
+    NotDone(Done, Vec<u8>),
     // The program is not called so.
     Usage,
 }
@@ -44,27 +45,21 @@ pub const USAGE: &str =
        dernoalf IMAGE COMMAND [WORDS]    one command: disk N, list, check, map, unread,
                                          read NAME, entry NAME, away NAME";
 
-// Why a command was not done, by what it printed.
-fn reason(said: &[u8]) -> &'static str {
-    if said.starts_with(b"refused 1") {
-        return "the disk is not sound, first at this entry, or at 16 for its size";
+// Why a command with this answer was not done.
+fn reason(answer: Done) -> &'static str {
+    match answer {
+        Done::Refused(Refusal::Unsound) => {
+            "the disk is not sound, first at this entry, or at 16 for its size"
+        }
+        Done::Refused(Refusal::BadName) => "the name has more than eleven bytes",
+        Done::Refused(Refusal::TooLong) => "the file has more than 1,024 bytes",
+        Done::Refused(Refusal::Unreadable) => {
+            "this can't be read as a command, or the image is there already"
+        }
+        Done::Full => "there is no room for the file",
+        Done::Absent => "there is no file of this name",
+        Done::Finished | Done::Read(_) | Done::Cut | Done::Short(_) => "it was not done",
     }
-    if said.starts_with(b"refused 2") {
-        return "the name has more than eleven bytes";
-    }
-    if said.starts_with(b"refused 3") {
-        return "the file has more than 1,024 bytes";
-    }
-    if said.starts_with(b"refused") {
-        return "this can't be read as a command, or the image is there already";
-    }
-    if said.starts_with(b"full") {
-        return "there is no room for the file";
-    }
-    if said.starts_with(b"none") {
-        return "there is no file of this name";
-    }
-    "it was not done"
 }
 
 impl fmt::Display for Failure {
@@ -73,9 +68,9 @@ impl fmt::Display for Failure {
             Failure::Memory => write!(f, "dernoalf: out of memory"),
             Failure::System(file, error) => write!(f, "dernoalf: {file}: {error}"),
             Failure::Stream(error) => write!(f, "dernoalf: {error}"),
-            Failure::NotDone(said) => {
+            Failure::NotDone(answer, said) => {
                 let line = from_utf8(said.as_slice()).unwrap_or("").trim_end();
-                write!(f, "dernoalf: {line}: {}", reason(said.as_slice()))
+                write!(f, "dernoalf: {line}: {}", reason(*answer))
             }
             Failure::Usage => write!(f, "{USAGE}"),
         }

@@ -1,9 +1,8 @@
 // Commands over a disk, in memory alone or with an image file beside it.
 use crate::failure::{Failure, OnFile};
 use crate::image::Image;
-use console::command::Command;
+use console::command::{Command, Question};
 use console::script::Script;
-use fsck::judge::first_fault;
 use layout::disk::Disk;
 use reader::read::read_file;
 use session::answers::push_refused;
@@ -50,20 +49,22 @@ impl Run {
     }
 
     // Obeys the command, and makes its writes on the image too.
-    fn obey(&mut self, rt: &HostRuntime, command: &Command) -> Result<(), Failure> {
-        if let Command::Disk(_, line) = command
+    fn obey(&mut self, rt: &HostRuntime, command: &Command) -> Result<Done, Failure> {
+        if let Command::Disk { line, .. } = command
             && self.image.is_some()
             && !self.session.disk().is_empty()
         {
             // An image that is there is not made anew.
-            return Ok(push_refused(&mut self.out, Refusal::Unreadable, *line)?);
+            push_refused(&mut self.out, Refusal::Unreadable, *line)?;
+            return Ok(Done::Refused(Refusal::Unreadable));
         }
         self.log.clear();
         let printed = self.out.len();
-        self.session.obey(command, &mut self.out, &mut self.log)?;
+        let answer = self.session.obey(command, &mut self.out, &mut self.log)?;
         // What the image doesn't have is not said to be done.
         self.keep(rt, command)
-            .inspect_err(|_| self.out.truncate(printed))
+            .inspect_err(|_| self.out.truncate(printed))?;
+        Ok(answer)
     }
 
     // Makes on the image what the command made in memory.
@@ -71,7 +72,7 @@ impl Run {
         let Some(image) = &mut self.image else {
             return Ok(());
         };
-        if let Command::Disk(..) = command {
+        if let Command::Disk { .. } = command {
             if self.session.disk().is_empty() {
                 return Ok(());
             }
@@ -108,27 +109,15 @@ impl Run {
         end
     }
 
-    // Whether the command did what it asks for, with this printed.
-    fn is_done(&self, command: &Command) -> bool {
-        let out = self.out.as_slice();
-        match command {
-            Command::Bad(..) => false,
-            Command::Disk(..) | Command::Power(_) => out.is_empty(),
-            Command::Put(..) | Command::Away(_) => out == b"done\n".as_slice(),
-            Command::Read(_) | Command::Entry(_) => out != b"none\n".as_slice()
-                && first_fault(self.session.disk()).is_none(),
-            _ => first_fault(self.session.disk()).is_none(),
-        }
-    }
-
     // One command, which is done or not.
     fn single(&mut self, rt: &HostRuntime, command: &Command) -> Result<(), Failure> {
-        self.obey(rt, command)?;
-        if self.is_done(command) {
-            return self.print(rt);
+        match self.obey(rt, command)? {
+            Done::Finished | Done::Read(_) => self.print(rt),
+            answer => {
+                let said = self.out.as_slice().to_vec(rt.alloc())?;
+                Err(Failure::NotDone(answer, said))
+            }
         }
-        let said = self.out.as_slice().to_vec(rt.alloc())?;
-        Err(Failure::NotDone(said))
     }
 
     // The command that the line spells, if it is one and no more.
@@ -160,7 +149,7 @@ impl Run {
     // Writes the bytes of a file to a file of the system.
     pub fn read(&mut self, rt: &HostRuntime, line: &str, file: &str) -> Result<(), Failure> {
         let command = Run::only(rt, line)?;
-        let Command::Read(name) = &command else {
+        let Command::Ask(Question::Read(name)) = &command else {
             return self.single(rt, &command);
         };
         let mut room = [0; Disk::LONGEST];

@@ -1,8 +1,7 @@
 -- What a command prints. Assumes nothing.
-use Rattle.std.specs.Prelude.{◌≡◌, ℕ, cond, List, [], ◌++◌, length, Some, None, codes, Option, ◌≢◌}
+use Rattle.std.specs.Prelude.{◌≡◌, ℕ, cond, List, [], ◌++◌, length, Some, None, codes, Option}
 use Rattle.std.specs.declared.ops.Range.{Range}
 use Rattle.layout.specs.Files.{file}
-use Rattle.layout.specs.declared.name.Name.{Name}
 use Rattle.unread.specs.Unread as u
 use Rattle.unread.specs.Runs.{Listed}
 use Rattle.update.specs.declared.answer.Refusal.TheVariants.{Unsound}
@@ -10,8 +9,6 @@ use Rattle.update.specs.declared.answer.Done.{Done}
 use Rattle.update.specs.Asking.{refusal, roomy}
 use Rattle.update.specs.Requests as r
 use Rattle.update.specs.Said.{Says}
-use Rattle.console.specs.declared.command.Command.{Command}
-use Rattle.console.specs.declared.command.Command.TheVariants as c
 use Rattle.console.specs.Commands.{Said, disk, power, put, away, read, entry, list, check, unread, map_of, bad}
 use Rattle.session.specs.Obeyed.{lasting, fault_of, size_fits, asked_of}
 use Rattle.session.specs.Printed.{line, refused_line, answer_line, read_text, entry_text, files_from, shown_ranges, map_text}
@@ -41,13 +38,6 @@ Shows d p check t = t ≡ line (codes "sound")
 Shows d p unread t = RangesPrinted d t
 Shows d p map_of t = t ≡ map_text d
 Shows d p (bad o q l) t = t ≡ refused_line q l
-
--- a command that only shows something, or a line that can't be obeyed
-pub record Shown (k : Command) : Type 0 where
-  pub no_disk : (n l : ℕ) → k ≢ c.Disk n l
-  pub no_power : (n : ℕ) → k ≢ c.Power n
-  pub no_put : (x : Name) (v : _) → k ≢ c.Put x v
-  pub no_away : (x : Name) → k ≢ c.Away x
 
 -- where it has to be and the disk isn't sound, that alone is said, with the first fault
 abbrev pub ShowsIf : Option ℕ → (text : List ℕ) → Type 0 → Type 0

@@ -1,7 +1,0 @@
-use Rattle.std.proofs.Common.{vec_items}
-use Rattle.session.specs.Printed.{files_from}
-use Rattle.session.proofs.Texts.{PutTo}
-use Rattle.session.proofs.listing.push_files.Given as goal
-
-abbrev pub invariant-loop-i : goal.invariant-loop-i
-invariant-loop-i l = PutTo (files_from l.disk) (vec_items l.initial.out) (vec_items l.out) 16 l.i
