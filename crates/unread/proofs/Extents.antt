@@ -29,9 +29,6 @@ pub read_of_entry_most : (d : List ℕ) (i : ℕ) → Sound d → i < 16 → rea
 unfolding read_of_entry needs
 read_of_entry_most d i s lt = cond_both (entry_at d i).used _ _ (λ n. n ≤ 30) (λ used. omega (arith, s.short i lt used)) (λ _. omega arith)
 
-max_zero : (n : ℕ) → max n 0 ≡ n
-max_zero n = omega arith
-
 -- a file has no more bytes in a block than it has in all
 read_by_file_within : (b : ℕ) (bs : List ℕ) (n : ℕ) → read_by_file b bs n ≤ min n 64
 unfolding read_by_file
@@ -62,20 +59,19 @@ read_by_first b (x ∷ bs) n i =
 pub read_by_position : (b : ℕ) (bs : List ℕ) (n : ℕ) → read_at n (position (λ x. eqb x b) bs) ≡ read_by_file b bs n
 read_by_position b bs n = ap (read_at n) (position_from-zero (λ x. eqb x b) bs) ∙ read_by_first b bs n 0 ∙ ap (read_by_file b bs) (omega arith)
 
-read_by_file_most : (b : ℕ) (bs : List ℕ) (n : ℕ) → read_by_file b bs n ≤ 64
-read_by_file_most b bs n = omega (arith, read_by_file_within b bs n)
-
 pub read_of_block_most : (d : List ℕ) (b n : ℕ) → read_of_block d b n ≤ 64
 unfolding read_of_block
 read_of_block_most d b zero = omega arith
 read_of_block_most d b (suc i) =
-    let file = cond_both (entry_at d i).used _ 0 (λ m. m ≤ 64) (λ _. read_by_file_most b (blocks_of (entry_at d i)) (entry_at d i).len) (λ _. omega arith) in
+    let e = entry_at d i in
+    let within = read_by_file_within b (blocks_of e) e.len in
+    let file = cond_both e.used (read_by_file b (blocks_of e) e.len) 0 (λ m. m ≤ 64) (λ _. omega arith) (λ _. omega arith) in
     omega (arith, file, read_of_block_most d b i)
 
 -- the last of some entries, if it is in use
 last_entry : (b read : ℕ) (e : Entry) (used : Bool) → fold (λ m (f : Entry). max m (read_by_file b (blocks_of f) f.len)) read (cond used (e ∷ []) []) ≡ max read (cond used (read_by_file b (blocks_of e) e.len) 0)
 last_entry b read e true = refl
-last_entry b read e false = sym (max_zero read)
+last_entry b read e false = let same : read ≡ max read 0 = omega arith in same
 
 -- the same, counted along the list of entries
 pub most_read_all : (d : List ℕ) (b n : ℕ) → fold (λ m (f : Entry). max m (read_by_file b (blocks_of f) f.len)) 0 (filter (λ (f : Entry). f.used) (map (entry_at d) (range_with_len 0 n))) ≡ read_of_block d b n

@@ -10,6 +10,7 @@ use layout::entry::Entry;
 use std::ops::Range;
 
 // How many bytes of the entry are read.
+#[tactic(auto, using(crate::proofs::Extents::read_of_used, crate::proofs::Extents::read_of_unused), unfolding(layout::specs::Entries::needs))]
 fn read_of_entry(entry: &Entry) -> usize
     ensures { result ≡ read_of_entry entry.now }
 {

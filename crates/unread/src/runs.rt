@@ -37,16 +37,15 @@ impl<'a> Runs<'a> {
 }
 
 // The runs of unread places of the disk, from its first on. A disk that isn't sound is refused with its first fault.
-#[tactic(auto, using(crate::proofs::Completeness::complete, crate::proofs::Refusals::refused_place, crate::proofs::Stepping::just_these))]
-pub fn unread_runs<'a>(disk: &'a [u8]) -> Result<Runs<'a>, Fault>
+#[tactic(auto, using(crate::proofs::Completeness::complete, crate::proofs::Refusals::refused_place, crate::proofs::Refusals::sound_no_fault, crate::proofs::Stepping::just_these))]
+pub fn unread_runs(disk: &[u8]) -> Result<Runs<'_>, Fault>
     ensures answer { MatchResult result (λ runs. (first_fault disk.now ≡ None) × (runs.disk.bytes ≡ disk.entry) × (runs.at ≡ 0)) (λ fault. option_map fault_of_place (first_fault disk.now) ≡ Some fault) }
     ensures places { IfErr result (λ fault. first_fault disk.now ≡ Some (faults.place fault)) }
     ensures ready { IfOk result (λ runs. Ready runs.disk.bytes.now runs.at) }
     ensures covers { JustThese (unread disk.now) }
     ensures complete { Complete disk.now }
 {
-    let disk = SoundDisk::check(disk)?;
-    Ok(Runs::of(disk))
+    Ok(Runs::of(SoundDisk::check(disk)?))
 }
 
 // The first place from `at` on that is unread, or the first that is read; or the disk's end.
@@ -55,6 +54,7 @@ fn next_place(disk: SoundDisk<'_>, at: usize, is_unread: bool) -> usize
     ensures { Until (unread disk.entry.bytes.now) (not is_unread) at result (length disk.entry.bytes.now) }
 {
     let mut at = at;
+    // No range and no chain: each step is as long as the extent that was found.
     while at < disk.bytes().len() {
         let extent = Extent::at(disk, at);
         if extent.unread == is_unread {
