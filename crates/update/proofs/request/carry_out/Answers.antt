@@ -1,22 +1,10 @@
-use Rattle.std.proofs.Common.{◌≡◌, ◌+◌, ◌<◌, length, sym, ap, ◌∙◌, subst, arith}
+use Rattle.std.proofs.Common.{◌≡◌, ◌<◌, length, sym, ap, ◌∙◌, arith}
 use Rattle.std.proofs.lemmas.Bool.{ltb-true, ltb-false}
 use Rattle.update.specs.Writes.{after_writes}
-use Rattle.update.specs.Plans.{plan_writes, writes_left, OnDisk}
+use Rattle.update.specs.Plans.{writes_left}
 use Rattle.update.proofs.Places.{after_none, after_nothing}
 use Rattle.update.proofs.PlanWrites.{first_on_disk, rest_on_disk, after_first}
 use Rattle.update.proofs.request.carry_out.Goals as goal
-
-pub loop-write-init : goal.loop-write-init
-loop-write-init c =
-    let d = c.args.disk.now in
-    let left : plan_writes c.args.plan.now ≡ writes_left c.into_iter-write-iterator.result = sym (ap writes_left c.into_iter-write-iterator.ensures.into_iter_gives ∙ c.writes-write-items.ensures) in
-    record {
-      can = tt;
-      ends = tt;
-      fit = subst (OnDisk d) left c.requires;
-      disk = ap (after_writes c.args.lasts d) left;
-      count = ap (λ ws. length ws + c.args.lasts) left;
-    }
 
 pub write_powered-requires : goal.write_powered-requires
 write_powered-requires c = omega (arith, first_on_disk _ _ _ c.in-Some.ensures.steps c.args.disk.now c.loop-write.invariant.fit, c.loop-write.auto.disk)

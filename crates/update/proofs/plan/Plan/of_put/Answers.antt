@@ -1,5 +1,5 @@
 use Rattle.std.proofs.Common.{◌≡◌, ℕ, true, cond, ltb, leb, List, [], ◌∷◌, ◌++◌, length, take, Some, None, sym, ap, ◌∙◌, subst, arith}
-use Rattle.std.proofs.lemmas.Bool.{and_left, and_right, and_from, ltb-true, le-leb, lt-leb}
+use Rattle.std.proofs.lemmas.Bool.{and_left, and_right, and_from, le-leb, lt-leb}
 use Rattle.layout.specs.Entries.{encoded}
 use Rattle.layout.proofs.Finding.{some_from_cond, none_from_cond}
 use Rattle.fsck.specs.Blocks.{free}
@@ -32,13 +32,6 @@ returns-in_err-blocks c =
 -- the place that was chosen
 here : (d x : List ℕ) (i : ℕ) → Some i ≡ cond (ltb (place_for d x) 16) (Some (place_for d x)) None → (ltb (place_for d x) 16 ≡ true) × (i ≡ place_for d x)
 here d x i is = some_from_cond (ltb (place_for d x) 16) i (place_for d x) is
-
-pub entry_write-last-requires : goal.entry_write-last-requires
-entry_write-last-requires c =
-    let d = c.args.disk.bytes.now in
-    let x = c.args.name.bytes in
-    let place = here d x c.in_ok-i.i c.in_ok-i.ensures in
-    omega (arith, ltb-true (place_for d x) 16 place.0, place.1)
 
 pub returns : goal.returns
 unfolding room_for plan_writes put_writes new_entry chosen
