@@ -43,17 +43,6 @@ module _ (before bytes out left : List ℕ) (so_far : ShownTo before bytes out l
 abbrev pub CharsTo : List ℕ → List ℕ → List ℕ → ℕ → Type 0
 CharsTo before bytes out i = out ++ shown_chars (drop i bytes) ≡ before ++ shown_chars bytes
 
-module _ (before bytes out : List ℕ) (i : ℕ) (so_far : CharsTo before bytes out i) where
-  pub chars_more : (now : List ℕ) → i < length bytes → now ≡ out ++ shown_char (get_or bytes i 0) → CharsTo before bytes now (i + 1)
-  unfolding shown_chars
-  chars_more now lt now-is =
-      let step = at_drop_more shown_chars bytes i 0 lt in
-      rw now-is (simp append_assoc (ap (λ l. out ++ l) (sym step) ∙ so_far))
-
-  pub chars_all : length bytes ≤ i → out ≡ before ++ shown_chars bytes
-  unfolding shown_chars
-  chars_all ge = sym (append-nil out) ∙ ap (λ l. out ++ l) (sym (at_drop_all shown_chars bytes i ge)) ∙ so_far
-
 -- a name is printed by its first byte and the others
 pub first_and_others : (x : List ℕ) (n : ℕ) → 0 < n → 0 < length x → shown_first (get_or x 0 0) ++ shown_chars (take (n - 1) (drop 1 x)) ≡ from_first (take n x)
 unfolding from_first

@@ -22,7 +22,7 @@ pub struct Script<'a> {
 fn is_passed_over(line: &[u8]) -> bool
     ensures { result ≡ passed_over line.now }
 {
-    line.is_empty() || line[0] == b'#'
+    matches!(line, [] | [b'#', ..])
 }
 
 // The command's word that a line begins with.

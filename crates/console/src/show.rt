@@ -23,7 +23,7 @@ pub fn push_number(out: &mut Vec<u8>, n: u64) -> Result<(), AllocError>
     out.extend_from_slice(digits.as_bytes())
 }
 
-// A hexadecimal digit, in lower case.
+// A hexadecimal digit, in lower case. (`char::from_digit` gives an Option, which a number below sixteen doesn't need.)
 #[tactic(auto, unfolding(crate::specs::Shown::hex_digit))]
 fn hex_digit(n: u8) -> u8
     requires { n < 16 }
