@@ -1,8 +1,8 @@
 -- What is printed piece after piece is what is printed at once. Assumes nothing.
 use Rattle.std.proofs.Common.{◌≡◌, ℕ, zero, suc, ◌+◌, ◌-◌, ◌<◌, ◌≤◌, List, [], ◌∷◌, ◌++◌, length, get_or, take, drop, IfOk, Ok, Err, Result, sym, ap, ◌∙◌, inl, inr, append_assoc, append-nil, arith, length-append, min}
-use Rattle.std.proofs.lemmas.List.{at_drop_more, at_drop_all, nil_from_length}
+use Rattle.std.proofs.lemmas.List.{nil_from_length}
 use Rattle.std.proofs.lemmas.Bool.{cases_lt, cond-true, cond-false, lt-ltb, le-ltb}
-use Rattle.console.specs.Shown.{shown_byte, shown_line, shown_behind, shown_char, shown_chars, shown_first, from_first}
+use Rattle.console.specs.Shown.{shown_byte, shown_line, shown_behind, shown_chars, shown_first, from_first}
 
 -- one list for another in what is made
 pub made_same : {T E : Type 0} (r : Result T E) (now xs ys : List ℕ) → xs ≡ ys → IfOk r (λ _. now ≡ xs) → IfOk r (λ _. now ≡ ys)
