@@ -1,4 +1,5 @@
 // Numbers, bytes and names as they are printed, put behind what is printed before.
+// (No `Display`: a formatter writes text, with more to prove for each piece than where a Vec grows.)
 ghost use Rattle.std.specs.Prelude.{◌≡◌, ◌<◌, ◌≤◌, ◌++◌, length, Some, OnOk, nat_eq};
 ghost use Rattle.std.specs.List.{suffix_len};
 ghost use Rattle.console.specs.Bytes.{lines_bytes};
