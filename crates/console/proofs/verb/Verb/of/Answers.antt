@@ -19,9 +19,6 @@ returns-in-disk c = read_as c.args.word.now (codes "disk") (search rules) (searc
 pub returns-in-entry : goal.returns-in-entry
 returns-in-entry c = read_as c.args.word.now (codes "entry") (search rules) (search rules)
 
-pub returns-in-list : goal.returns-in-list
-returns-in-list c = read_as c.args.word.now (codes "list") (search rules) (search rules)
-
 pub returns-in-power : goal.returns-in-power
 returns-in-power c = read_as c.args.word.now (codes "power") (search rules) (search rules)
 
