@@ -2,6 +2,7 @@
 use Rattle.std.proofs.Common.{◌≡◌, ℕ, suc, ◌+◌, true, false, List, [], ◌∷◌, ◌++◌, length, is_some, Some, None, Ok, Err, Option, Result, sym, refl, ap, ◌∙◌, subst, append_assoc, append-nil, arith}
 use Rattle.std.proofs.lemmas.List.{nil_from_length}
 use Rattle.std.proofs.lemmas.Bool.{cond-true, cond-false}
+use Rattle.console.specs.declared.verb.Verb.{Verb}
 use Rattle.console.specs.Lines.{lines}
 use Rattle.console.specs.Bytes.{line_bytes}
 use Rattle.console.specs.Commands.{passed_over, verb_of, line_in_front, body, commands, clean_lines, text_asks, BodyRead}
@@ -47,8 +48,8 @@ pub ended_empty : (m : ℕ) (u : List ℕ) → length u ≡ 0 → Ended m (clean
 unfolding body commands lines
 ended_empty m u none = subst (λ t. Ended m (clean_lines t)) (sym (nil_from_length u none)) (record { none = refl; same = refl })
 
-pub ended-verb : (m : ℕ) (u l : List ℕ) (ks : List (List ℕ)) → clean_lines u ≡ l ∷ ks → passed_over l ≡ false → is_some (verb_of l) ≡ true → Ended m (clean_lines u)
-ended-verb m u l ks is counts some = subst (Ended m) (sym is) (record { none = body_ends m l ks counts some; same = commands-behind_put m l ks counts some })
+pub ended_verb : (m : ℕ) (u l : List ℕ) (ks : List (List ℕ)) → clean_lines u ≡ l ∷ ks → passed_over l ≡ false → is_some (verb_of l) ≡ true → Ended m (clean_lines u)
+ended_verb m u l ks is counts some = subst (Ended m) (sym is) (record { none = body_ends m l ks counts some; same = commands-behind_put m l ks counts some })
 
 one_on : {n : ℕ} {ls : List (List ℕ)} {so_far : Result (List ℕ) ℕ} (m : ℕ) {ks : List (List ℕ)} → Read n ls so_far (suc m) ks → Read n ls so_far (m + 1) ks
 one_on {n = n} {ls = ls} {so_far = so_far} m {ks = ks} h = let one : suc m ≡ m + 1 = omega arith in subst (λ k. Read n ls so_far k ks) one h
@@ -57,19 +58,23 @@ module _ (n : ℕ) (ls : List (List ℕ)) (m : ℕ) (l : List ℕ) (ks : List (L
   pub read_passed : (so_far : Result (List ℕ) ℕ) → Read n ls so_far m (l ∷ ks) → passed_over l ≡ true → Read n ls so_far (m + 1) ks
   read_passed so_far h is = one_on m (record { bytes = ap (together so_far) (sym (body_passed m l ks is)) ∙ h.bytes; rest = h.rest ∙ commands_passed m l ks true is })
 
-  module _ (counts : passed_over l ≡ false) (none : is_some (verb_of l) ≡ false) where
+  -- a line that counts, on which no command was found
+  module _ {found : Option Verb} (counts : false ≡ passed_over l) (found-is : found ≡ verb_of l) (none : false ≡ is_some found) where
+    no_verb : is_some (verb_of l) ≡ false
+    no_verb = ap is_some (sym found-is) ∙ sym none
+
     on_from : {done : List ℕ} {o : Option (List ℕ)} → Read n ls (Ok done) m (l ∷ ks) → o ≡ line_bytes l → together (Ok done) (line_in_front m o (body (suc m) ks)) ≡ body n ls
-    on_from {done = done} h is = ap (λ p. together (Ok done) (line_in_front m p (body (suc m) ks))) is ∙ ap (together (Ok done)) (sym (body_line m l ks counts none)) ∙ h.bytes
+    on_from {done = done} h is = ap (λ p. together (Ok done) (line_in_front m p (body (suc m) ks))) is ∙ ap (together (Ok done)) (sym (body_line m l ks (sym counts) no_verb)) ∙ h.bytes
 
     pub read_line : (done bs : List ℕ) → Read n ls (Ok done) m (l ∷ ks) → Some bs ≡ line_bytes l → Read n ls (Ok (done ++ bs)) (m + 1) ks
-    read_line done bs h is = one_on m (record { bytes = together_more done m bs (body (suc m) ks) ∙ on_from h is; rest = h.rest ∙ commands_bytes m l ks counts none })
+    read_line done bs h is = one_on m (record { bytes = together_more done m bs (body (suc m) ks) ∙ on_from h is; rest = h.rest ∙ commands_bytes m l ks (sym counts) no_verb })
 
     pub read_bad : (done : List ℕ) → Read n ls (Ok done) m (l ∷ ks) → None ≡ line_bytes l → Read n ls (Err m) (m + 1) ks
-    read_bad done h is = one_on m (record { bytes = on_from h is; rest = h.rest ∙ commands_bytes m l ks counts none })
+    read_bad done h is = one_on m (record { bytes = on_from h is; rest = h.rest ∙ commands_bytes m l ks (sym counts) no_verb })
 
     -- a line behind a bad one
     pub read_behind : (k : ℕ) → Read n ls (Err k) m (l ∷ ks) → Read n ls (Err k) (m + 1) ks
-    read_behind k h = one_on m (record { bytes = h.bytes; rest = h.rest ∙ commands_bytes m l ks counts none })
+    read_behind k h = one_on m (record { bytes = h.bytes; rest = h.rest ∙ commands_bytes m l ks (sym counts) no_verb })
 
 -- where the body ends, what was read is all of it
 pub all_read : (n : ℕ) (t : List ℕ) (b : Result (List ℕ) ℕ) (m : ℕ) (u : List ℕ) → Ended m (clean_lines u) → Read n (clean_lines t) b m (clean_lines u) → BodyRead n t b m u

@@ -1,36 +1,17 @@
 -- The elements at the end of a list that pass a test, and the one before them. Assumes nothing.
-use Rattle.std.proofs.Common.{◌≡◌, ℕ, zero, suc, ◌+◌, ◌-◌, ◌<◌, ◌≤◌, Bool, true, false, eqb, List, [], ◌∷◌, ◌++◌, reverse, length, get_or, take, drop, replicate, sym, ap, ◌∙◌, inl, inr, one-add, arith}
+use Rattle.std.proofs.Common.{◌≡◌, ℕ, ◌+◌, ◌-◌, ◌<◌, ◌≤◌, Bool, true, false, eqb, List, ◌++◌, reverse, length, get_or, take, drop, replicate, sym, ap, ◌∙◌, arith}
 use lib.ListN.{length-reverse}
-use Rattle.std.specs.List.{prefix_len, suffix_len}
+use Rattle.std.specs.List.{suffix_len}
 use Rattle.std.proofs.lemmas.List.{length-drop, length-replicate, take-append-drop, get_or-drop, get_or-replicate, ext_get_or, get_or-reverse}
-use Rattle.std.proofs.lemmas.Bool.{cases_Bool, cond-true, cond-false, eqb-true}
+use Rattle.std.proofs.lemmas.List.Sums.{prefix_len_passes, prefix_len_stops}
+use Rattle.std.proofs.lemmas.Bool.{eqb-true}
 
 module _ (p : ℕ → Bool) where
-  leading_yes : (xs : List ℕ) (k : ℕ) → k < prefix_len p xs → p (get_or xs k 0) ≡ true
-  leading_yes [] k lt = absurd (omega arith)
-  leading_yes (x ∷ xs) zero lt = elim (cases_Bool (p x)) [
-    | inl e ↦ e
-    | inr e ↦ absurd (omega (arith, cond-false (p x) (1 + prefix_len p xs) 0 e))
-  ]
-  leading_yes (x ∷ xs) (suc k) lt = elim (cases_Bool (p x)) [
-    | inl e ↦ leading_yes xs k (omega (arith, cond-true (p x) (1 + prefix_len p xs) 0 e))
-    | inr e ↦ absurd (omega (arith, cond-false (p x) (1 + prefix_len p xs) 0 e))
-  ]
-
-  leading_no : (xs : List ℕ) → prefix_len p xs < length xs → p (get_or xs (prefix_len p xs) 0) ≡ false
-  leading_no [] lt = absurd (omega arith)
-  leading_no (x ∷ xs) lt = elim (cases_Bool (p x)) [
-    | inl e ↦
-        let on = cond-true (p x) (1 + prefix_len p xs) 0 e in
-        ap (λ n. p (get_or (x ∷ xs) n 0)) (on ∙ one-add (prefix_len p xs)) ∙ leading_no xs (omega (arith, on))
-    | inr e ↦ ap (λ n. p (get_or (x ∷ xs) n 0)) (cond-false (p x) (1 + prefix_len p xs) 0 e) ∙ e
-  ]
-
   ending_yes : (xs : List ℕ) (k : ℕ) → k < suffix_len p xs → k < length xs → p (get_or xs (length xs - 1 - k) 0) ≡ true
-  ending_yes xs k lt in' = ap p (sym (get_or-reverse xs k 0 in')) ∙ leading_yes (reverse xs) k lt
+  ending_yes xs k lt in' = ap p (sym (get_or-reverse xs k 0 in')) ∙ prefix_len_passes p (reverse xs) k 0 lt
 
   pub ending_no : (xs : List ℕ) → suffix_len p xs < length xs → p (get_or xs (length xs - 1 - suffix_len p xs) 0) ≡ false
-  ending_no xs lt = ap p (sym (get_or-reverse xs (suffix_len p xs) 0 lt)) ∙ leading_no (reverse xs) (omega (arith, length-reverse xs))
+  ending_no xs lt = ap p (sym (get_or-reverse xs (suffix_len p xs) 0 lt)) ∙ prefix_len_stops p (reverse xs) 0 (omega (arith, length-reverse xs))
 
 -- without some that are equal at its end, a list is filled up with them again
 pub filled_up : (b : ℕ) (xs : List ℕ) (n : ℕ) → n ≤ length xs → length xs - suffix_len (eqb b) xs ≤ n → take n xs ++ replicate (length xs - n) b ≡ xs

@@ -1,8 +1,8 @@
 -- What is printed piece after piece is what is printed at once. Assumes nothing.
 use Rattle.std.proofs.Common.{◌≡◌, ℕ, zero, suc, ◌+◌, ◌-◌, ◌<◌, ◌≤◌, List, [], ◌∷◌, ◌++◌, length, get_or, take, drop, IfOk, Ok, Err, Result, sym, ap, ◌∙◌, inl, inr, append_assoc, append-nil, arith, length-append, min}
-use Rattle.std.proofs.lemmas.List.{at_drop_more, at_drop_all, nil_from_length}
+use Rattle.std.proofs.lemmas.List.{nil_from_length}
 use Rattle.std.proofs.lemmas.Bool.{cases_lt, cond-true, cond-false, lt-ltb, le-ltb}
-use Rattle.console.specs.Shown.{shown_byte, shown_line, shown_behind, shown_char, shown_chars, shown_first, from_first}
+use Rattle.console.specs.Shown.{shown_byte, shown_line, shown_behind, shown_chars, shown_first, from_first}
 
 -- one list for another in what is made
 pub made_same : {T E : Type 0} (r : Result T E) (now xs ys : List ℕ) → xs ≡ ys → IfOk r (λ _. now ≡ xs) → IfOk r (λ _. now ≡ ys)
@@ -42,17 +42,6 @@ module _ (before bytes out left : List ℕ) (so_far : ShownTo before bytes out l
 -- i bytes of a name are printed
 abbrev pub CharsTo : List ℕ → List ℕ → List ℕ → ℕ → Type 0
 CharsTo before bytes out i = out ++ shown_chars (drop i bytes) ≡ before ++ shown_chars bytes
-
-module _ (before bytes out : List ℕ) (i : ℕ) (so_far : CharsTo before bytes out i) where
-  pub chars_more : (now : List ℕ) → i < length bytes → now ≡ out ++ shown_char (get_or bytes i 0) → CharsTo before bytes now (i + 1)
-  unfolding shown_chars
-  chars_more now lt now-is =
-      let step = at_drop_more shown_chars bytes i 0 lt in
-      rw now-is (simp append_assoc (ap (λ l. out ++ l) (sym step) ∙ so_far))
-
-  pub chars_all : length bytes ≤ i → out ≡ before ++ shown_chars bytes
-  unfolding shown_chars
-  chars_all ge = sym (append-nil out) ∙ ap (λ l. out ++ l) (sym (at_drop_all shown_chars bytes i ge)) ∙ so_far
 
 -- a name is printed by its first byte and the others
 pub first_and_others : (x : List ℕ) (n : ℕ) → 0 < n → 0 < length x → shown_first (get_or x 0 0) ++ shown_chars (take (n - 1) (drop 1 x)) ≡ from_first (take n x)

@@ -10,7 +10,6 @@ use Rattle.console.specs.declared.command.Command.{Command}
 use Rattle.console.specs.declared.command.Question.{Question}
 use Rattle.console.specs.declared.command.Command.TheVariants as c
 use Rattle.console.specs.declared.command.Question.TheVariants as q
-use Rattle.console.specs.declared.line.Unreadable as u
 use Rattle.console.specs.Lines.{lines}
 use Rattle.console.specs.Words.{without_return, trimmed, word, behind}
 use Rattle.console.specs.Numbers.{decimal}
@@ -79,11 +78,6 @@ name_of v n (b ∷ bs) = name_of_spelled v n (spelled Plain (b ∷ bs))
 abbrev pub named : (Name → Said) → Result Name Said → Said
 named f (Ok x) = f x
 named f (Err s) = s
-
--- the bytes of a body that was read
-abbrev pub items_or_line : {V : Type 0} → (V → List ℕ) → Result V u.Unreadable → Result (List ℕ) ℕ
-items_or_line items (Ok v) = Ok (items v)
-items_or_line items (Err e) = Err e.line
 
 -- a command on a number, and one that is alone on its line
 abbrev pub numbered : Verb → (ℕ → Said) → ℕ → Option ℕ → Said

@@ -1,9 +1,10 @@
 -- What was read of a line, as the code has it. Assumes nothing.
-use Rattle.std.specs.Prelude.{◌≡◌, IfSome, Some, None, Ok, Err, Option, Result}
+use Rattle.std.specs.Prelude.{◌≡◌, ℕ, List, IfSome, Some, None, Ok, Err, Option, Result}
 use Rattle.layout.specs.declared.name.Name.{Name}
 use Rattle.update.specs.declared.answer.Refusal.TheVariants.{BadName, Unreadable}
 use Rattle.console.specs.declared.verb.Verb.{Verb}
 use Rattle.console.specs.declared.command.Command.{Command}
+use Rattle.console.specs.declared.line.Unreadable as u
 use Rattle.console.specs.declared.line.LineError.{LineError}
 use Rattle.console.specs.declared.line.LineError.TheVariants as error
 use Rattle.console.specs.Commands.{Said, bad, said}
@@ -23,3 +24,8 @@ NameRead v (Err e) r = IfSome (error_said v e) (λ s. Err s ≡ r)
 abbrev pub LineAsks : Verb → Result Command LineError → Said → Type 0
 LineAsks v (Ok c) s = said c ≡ s
 LineAsks v (Err e) s = IfSome (error_said v e) (λ t. t ≡ s)
+
+-- the bytes of a body that was read, or the first line that is no line of bytes
+abbrev pub items_or_line : {V : Type 0} → (V → List ℕ) → Result V u.Unreadable → Result (List ℕ) ℕ
+items_or_line items (Ok v) = Ok (items v)
+items_or_line items (Err e) = Err e.line

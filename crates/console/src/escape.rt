@@ -14,12 +14,8 @@ pub(crate) const RADIX: u8 = 0x10;
 pub fn hex_value(b: u8) -> Option<u8>
     ensures { result ≡ hex b }
 {
-    match b {
-        b'0'..=b'9' => Some(b - b'0'),
-        b'a'..=b'f' => Some(b - b'a' + 10),
-        b'A'..=b'F' => Some(b - b'A' + 10),
-        _ => None,
-    }
+    let digit = char::from(b).to_digit(16)?;
+    Some(digit as u8)
 }
 
 // The byte of two digits, if both are.

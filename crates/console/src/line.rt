@@ -2,8 +2,8 @@
 ghost use Rattle.std.specs.Prelude.{◌≡◌, IfOk, vec_items};
 ghost use Rattle.std.specs.Option.{ok_or};
 ghost use Rattle.console.specs.Numbers.{decimal};
-ghost use Rattle.console.specs.Commands.{said, name_of, alone, items_or_line, asks};
-ghost use Rattle.console.specs.Parsed.{NameRead, LineAsks};
+ghost use Rattle.console.specs.Commands.{said, name_of, alone, asks};
+ghost use Rattle.console.specs.Parsed.{items_or_line, NameRead, LineAsks};
 ghost use Rattle.console.specs.declared.line.LineError.TheVariants as error;
 
 use crate::command::{Command, Question};

@@ -12,7 +12,7 @@ fn push_digit(n: u64, b: u8) -> Option<u64>
     n.checked_mul(10)?.checked_add(u64::from(b - b'0'))
 }
 
-// The number that the word writes, where it is one or more digits and fits.
+// The number that the word writes, where it is one or more digits and fits. (`parse` of std takes a `+` in front too.)
 pub fn parse_decimal(word: &[u8]) -> Option<u64>
     ensures { result ≡ decimal word.now }
 {

@@ -1,6 +1,7 @@
 // A command text, read command by command.
 ghost use Rattle.std.specs.Prelude.{◌≡◌, ◌+◌, ◌^◌, ◌<◌, ◌∷◌, length, IfOk, vec_items};
-ghost use Rattle.console.specs.Commands.{passed_over, verb_of, items_or_line, clean_lines, BodyRead, CommandRead};
+ghost use Rattle.console.specs.Commands.{passed_over, verb_of, clean_lines, BodyRead, CommandRead};
+ghost use Rattle.console.specs.Parsed.{items_or_line};
 
 use crate::bytes::parse_bytes;
 use crate::command::Command;
@@ -22,7 +23,7 @@ pub struct Script<'a> {
 fn is_passed_over(line: &[u8]) -> bool
     ensures { result ≡ passed_over line.now }
 {
-    line.is_empty() || line[0] == b'#'
+    matches!(line, [] | [b'#', ..])
 }
 
 // The command's word that a line begins with.
@@ -76,6 +77,7 @@ impl<'a> Script<'a> {
     }
 
     // The next command, or nothing at the end.
+    #[tactic(auto, using(crate::proofs::Commands::asks_passed, crate::proofs::Commands::asks_no_verb, crate::proofs::Commands::asks_nothing))]
     pub fn next_command(&mut self, heap: Global) -> Result<Option<Command>, AllocError>
         ensures { IfOk result (λ c. CommandRead self.old.line self.old.text.now c self.new.line self.new.text.now) }
     {

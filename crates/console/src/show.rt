@@ -1,4 +1,5 @@
 // Numbers, bytes and names as they are printed, put behind what is printed before.
+// (No `Display`: a formatter writes text, with more to prove for each piece than where a Vec grows.)
 ghost use Rattle.std.specs.Prelude.{◌≡◌, ◌<◌, ◌≤◌, ◌++◌, length, Some, OnOk, nat_eq};
 ghost use Rattle.std.specs.List.{suffix_len};
 ghost use Rattle.console.specs.Bytes.{lines_bytes};
@@ -23,7 +24,7 @@ pub fn push_number(out: &mut Vec<u8>, n: u64) -> Result<(), AllocError>
     out.extend_from_slice(digits.as_bytes())
 }
 
-// A hexadecimal digit, in lower case.
+// A hexadecimal digit, in lower case. (`char::from_digit` gives an Option, which a number below sixteen doesn't need.)
 #[tactic(auto, unfolding(crate::specs::Shown::hex_digit))]
 fn hex_digit(n: u8) -> u8
     requires { n < 16 }

@@ -1,19 +1,11 @@
 use Rattle.std.proofs.Common.{◌≡◌, ◌∷◌, Some, vec_items, sym, ap, ◌∙◌}
-use Rattle.std.proofs.lemmas.Bool.{eqb-true}
 use Rattle.console.specs.Words.{behind}
 use Rattle.console.specs.Verbs.{verb}
-use Rattle.console.specs.Commands.{said, items_or_line, asks, text_asks}
-use Rattle.console.proofs.Commands.{asks_nothing, asks_passed, asks_no_verb, asks_put, asks_other}
+use Rattle.console.specs.Commands.{said, asks, text_asks}
+use Rattle.console.specs.Parsed.{items_or_line}
+use Rattle.console.proofs.Commands.{asks_put, asks_other}
 use Rattle.console.proofs.script.Script.next_command.Goals as goal
 use Rattle.console.proofs.script.Script.next_command.Goals.{in-Put+in_ok-body-in-Put, in_default-verb}
-
-pub loop-heap-preserved : goal.loop-heap-preserved
-loop-heap-preserved c = c.loop-heap.invariant ∙ asks_passed _ _ _ _ c.first_line.ensures.lines (sym c.if-is_passed_over.ensures)
-
-pub returns-in_default : goal.returns-in_default
-returns-in_default c =
-    let none = ap verb (sym c.split_word.ensures.first) ∙ sym c.of.ensures ∙ c.in_default.is in
-    c.loop-heap.invariant ∙ asks_no_verb _ _ _ _ c.first_line.ensures.lines (sym c.if-is_passed_over.ensures) none
 
 pub returns-in-loop-heap : goal.returns-in-loop-heap
 returns-in-loop-heap c =
@@ -37,6 +29,3 @@ returns-in-loop-heap c =
           ∙ (λ i. asks v n (behind l) body ∷ text_asks (sym w.self-is i).line (sym w.self-is i).text.now)
     ] in
     c.loop-heap.invariant ∙ asked ∙ ap (λ s. s ∷ text_asks self.line self.text.now) (sym command)
-
-pub returns : goal.returns
-returns c = c.loop-heap.invariant ∙ asks_nothing _ _ (eqb-true _ _ (sym c.loop-heap-test.ensures))

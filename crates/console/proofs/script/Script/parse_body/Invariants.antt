@@ -1,5 +1,6 @@
 use Rattle.std.proofs.Common.{length, vec_items}
-use Rattle.console.specs.Commands.{items_or_line, clean_lines}
+use Rattle.console.specs.Commands.{clean_lines}
+use Rattle.console.specs.Parsed.{items_or_line}
 use Rattle.console.proofs.Bodies.{Read}
 use Rattle.console.proofs.script.Script.parse_body.Given as goal
 
