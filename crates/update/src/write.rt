@@ -17,13 +17,22 @@ pub struct Write {
 #[derive(Debug, Clone, Copy, PartialEq, Eq)]
 pub struct OffDisk;
 
+// Fills a part of the disk with these bytes.
+fn fill(part: &mut [u8], bytes: &[u8; Disk::BLOCK])
+    requires { length part.old ≡ 64 }
+    ensures { part.new ≡ bytes.now }
+{
+    part.copy_from_slice(bytes);
+}
+
 // Makes the write: its bytes are in its block, all of them, and nothing else is changed.
 pub(crate) fn write_block(disk: &mut [u8], write: &Write)
     requires { 64 * write.now.to + 64 ≤ length disk.old }
     ensures { disk.new ≡ after_write disk.old write.now }
 {
     let at = write.to * Disk::BLOCK;
-    disk[at..at + Disk::BLOCK].copy_from_slice(&write.bytes);
+    // A part from the middle of the disk, lent on to be written.
+    fill(&mut disk[at..at + Disk::BLOCK], &write.bytes);
 }
 
 impl Write {

@@ -12,4 +12,4 @@ returns c =
     let bytes = c.args.write.now.bytes in
     let long : length bytes ≡ 64 = search rules in
     let size : (b * 64 + 64) - b * 64 ≡ length bytes = omega arith in
-    put_mid-replaced (b * 64) _ d _ bytes c.copy_from_slice.ensures.after size ∙ ap (λ at. replaced d at bytes) (mul_comm b 64)
+    put_mid-replaced (b * 64) _ d _ bytes c.fill.ensures size ∙ ap (λ at. replaced d at bytes) (mul_comm b 64)
