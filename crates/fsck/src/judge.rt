@@ -1,8 +1,8 @@
 // Whether a disk is sound, and the first entry at which it isn't.
-ghost use Rattle.std.specs.Prelude.{◌≡◌, ℕ, suc, ◌<◌, true, ◌||◌, Decides, ◌==◌};
+ghost use Rattle.std.specs.Prelude.{◌≡◌, ℕ, suc, ◌<◌, true, ◌||◌, ◌==◌, if◌then◌else◌, Some, None, Decides};
 ghost use Rattle.std.specs.Option.{option_map};
 ghost use Rattle.layout.specs.Entries.{blocks_of};
-ghost use Rattle.layout.specs.Files.{has_entries, has_entry, held, find};
+ghost use Rattle.layout.specs.Files.{has_entries, has_entry, held, find, entry_at, entries};
 ghost use Rattle.fsck.specs.Sets.{member};
 ghost use Rattle.fsck.specs.Blocks.{blocks_to, has, size};
 ghost use Rattle.fsck.specs.Sound.{size_ok, block_ok, blocks_ok, entry_ok, sound, first_fault};
@@ -59,17 +59,15 @@ fn is_first(disk: Disk<'_>, entry: &Entry, i: usize) -> bool
     disk.find(&entry.name) == Some(i)
 }
 
-// Whether entry i has no fault against those before it, whose blocks are taken. If it has none, its own blocks are taken too.
-fn judge_entry(disk: &[u8], i: usize, taken: &mut BlockSet) -> bool
+// Whether entry i of the disk has no fault against those before it, whose blocks are taken. If it has none, its own blocks are taken too.
+fn judge_entry(disk: &[u8], i: usize, entry: &Entry, taken: &mut BlockSet) -> bool
     requires there { has_entry disk.now i ≡ true }
+    requires entry { entry.now ≡ entry_at disk.now i }
     requires taken { (k : ℕ) → member taken.old k ≡ has (blocks_to disk.now i) k }
     ensures value { result ≡ entry_ok disk.now i }
     ensures taken { result ≡ true → (k : ℕ) → member taken.new k ≡ has (blocks_to disk.now (suc i)) k }
 {
-    let view = Disk::new(disk);
-    let Some(entry) = view.entry(i) else {
-        return false;
-    };
+    // A flag of the disk, since an entry has only that it is 1 or not.
     if disk[i * Disk::ENTRY] > 1 {
         return false;
     }
@@ -79,10 +77,21 @@ fn judge_entry(disk: &[u8], i: usize, taken: &mut BlockSet) -> bool
     if usize::from(entry.len) > Disk::LONGEST {
         return false;
     }
-    if !is_first(view, &entry, i) {
+    if !is_first(Disk::new(disk), entry, i) {
         return false;
     }
-    take_file(&entry, disk.len() / Disk::BLOCK, taken)
+    take_file(entry, disk.len() / Disk::BLOCK, taken)
+}
+
+// The entries, where the disk has the size of one.
+fn entries_of(disk: &[u8]) -> Option<[Entry; Disk::ENTRIES]>
+    ensures { result ≡ (if size_ok disk.now then Some (entries disk.now) else None) }
+{
+    if has_size(disk) {
+        Disk::new(disk).entries()
+    } else {
+        None
+    }
 }
 
 // Nothing for a sound disk; else its size, where that is wrong, or the first entry at which it isn't sound, judged against those before it.
@@ -93,12 +102,12 @@ pub fn first_fault(disk: &[u8]) -> Option<Fault>
     ensures agrees { Decides (sound disk.now) (Sound disk.now) }
     ensures twins { TwinsFound disk.now }
 {
-    if !has_size(disk) {
+    let Some(entries) = entries_of(disk) else {
         return Some(Fault::Size);
-    }
+    };
     let mut taken = BlockSet::new();
-    for i in 0..Disk::ENTRIES {
-        if !judge_entry(disk, i, &mut taken) {
+    for (i, entry) in entries.iter().enumerate() {
+        if !judge_entry(disk, i, entry, &mut taken) {
             return Some(Fault::Entry(i));
         }
     }
