@@ -9,23 +9,20 @@ use Rattle.session.proofs.Ranges.{ListedTo, listed_none, listed_more, listed_all
 use Rattle.session.proofs.Texts.{pair_behind}
 use Rattle.session.proofs.listing.push_unread.Goals as goal
 
-pub returns-in_default : goal.returns-in_default
-returns-in_default c = absurd (both_ways _ (unsound_from_some c.args.disk.now (Some (place c.in_default.field-0)) (sym c.in_default.ensures.places) refl) c.requires)
-
 pub loop-run-init : goal.loop-run-init
 loop-run-init c =
     let was = vec_items c.args.out.now in
     let begun = c.into_iter-run-iterator.ensures.into_iter_gives in
-    let answer = c.in-Ok.ensures.answer in (
+    let runs = c.of-run-items.ensures in (
       tt,
       tt,
-      (λ j. (begun j).disk.bytes.now) ∙ (λ j. (answer.1 j).now),
-      subst (ListedTo (unread c.args.disk.now) was was) (sym ((λ j. (begun j).at) ∙ answer.2)) (listed_none (unread c.args.disk.now) was),
+      (λ j. (begun j).disk.bytes.now) ∙ (λ j. (runs.disk j).now),
+      subst (ListedTo (unread c.args.disk.bytes.now) was was) (sym ((λ j. (begun j).at) ∙ runs.at)) (listed_none (unread c.args.disk.bytes.now) was),
     )
 
 pub loop-run-preserved : goal.loop-run-preserved
 loop-run-preserved c =
-    let p = unread c.args.disk.now in
+    let p = unread c.args.disk.bytes.now in
     let was = vec_items c.args.out.now in
     let out = vec_items c.loop-run.out in
     let now = vec_items c.extend_from_slice-in-loop-run.new.self in
@@ -41,4 +38,4 @@ loop-run-preserved c =
 pub returns : goal.returns
 returns c =
     let inv = c.loop-run.invariant in
-    listed_all (unread c.args.disk.now) (vec_items c.args.out.now) (vec_items c.loop-run.out) c.loop-run.run-iterator.at inv.3 (λ k from. ap (λ d. unread d k) (sym inv.2) ∙ c.in-None.ensures.steps.1 k from)
+    listed_all (unread c.args.disk.bytes.now) (vec_items c.args.out.now) (vec_items c.loop-run.out) c.loop-run.run-iterator.at inv.3 (λ k from. ap (λ d. unread d k) (sym inv.2) ∙ c.in-None.ensures.steps.1 k from)

@@ -7,4 +7,4 @@ abbrev pub invariant-loop-run : goal.invariant-loop-run
 invariant-loop-run l =
     (goal.iterator-loop-run).can_next l.run-iterator ×
     (goal.iterator-loop-run).is_finite l.run-iterator ×
-    (l.run-iterator.disk.bytes.now ≡ l.disk) × ListedTo (unread l.disk) (vec_items l.initial.out) (vec_items l.out) l.run-iterator.at
+    (l.run-iterator.disk.bytes.now ≡ l.fn.disk.bytes.now) × ListedTo (unread l.fn.disk.bytes.now) (vec_items l.initial.out) (vec_items l.out) l.run-iterator.at
