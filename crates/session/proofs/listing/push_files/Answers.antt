@@ -4,12 +4,9 @@ use Rattle.layout.specs.Files.{entry_at}
 use Rattle.layout.proofs.Searching.{get_or-entries}
 use Rattle.session.specs.Printed.{file_line, files_from}
 use Rattle.session.proofs.Entries.{files_from_used, files_from_unused}
-use Rattle.session.proofs.Texts.{put_none, put_more, put_all}
+use Rattle.session.proofs.Texts.{put_more, put_all}
 use Rattle.session.proofs.listing.push_files.Goals as goal
 use Rattle.session.proofs.listing.push_files.Goals.{then-entry+in_ok-push_file_line, else-entry}
-
-pub loop-entry-init : goal.loop-entry-init
-loop-entry-init c = put_none (files_from c.args.disk.bytes.now) (vec_items c.args.out.now) 16
 
 pub loop-entry-preserved : goal.loop-entry-preserved
 loop-entry-preserved c =
