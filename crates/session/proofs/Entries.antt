@@ -1,10 +1,10 @@
 -- Files and blocks of a sound disk, one after the other. Assumes nothing.
-use Rattle.std.proofs.Common.{◌≡◌, ℕ, zero, suc, ◌+◌, ◌-◌, ◌%◌, ◌<◌, Bool, true, false, ◌&&◌, ◌||◌, cond, eqb, ◌⊎◌, List, [], ◌∷◌, ◌++◌, map, position, Some, None, Option, sym, refl, ap, ◌∙◌, ⊎_elim, add-one, arith}
+use Rattle.std.proofs.Common.{◌≡◌, ℕ, zero, suc, ◌+◌, ◌-◌, ◌%◌, ◌<◌, ◌≤◌, Bool, true, false, ◌&&◌, ◌||◌, cond, eqb, ◌⊎◌, List, [], ◌∷◌, ◌++◌, map, position, Some, None, Option, sym, refl, ap, ◌∙◌, ⊎_elim, add-one, arith}
 use Rattle.std.specs.List.{IsAnyAnswer, list_any, range_with_len, position_from}
 use Rattle.std.proofs.lemmas.Iterator.Adapters.{position_from-zero}
 use Rattle.std.proofs.lemmas.List.Elements.{contains_decides}
 use Rattle.std.proofs.lemmas.List.{get_or_default}
-use Rattle.std.proofs.lemmas.Bool.{cases_Bool, both_ways, cond-true, cond-false, or_from, or_left, or_right, eq-eqb, ne_eqb}
+use Rattle.std.proofs.lemmas.Bool.{cases_Bool, both_ways, cond-true, cond-false, or_from, or_left, or_right, eq-eqb, ne_eqb, le-ltb}
 use Rattle.std.proofs.lemmas.Bool.Decides.{Decides-eqb, nat_tests}
 use Rattle.layout.specs.declared.entry.Entry.{Entry}
 use Rattle.layout.specs.Entries.{blocks_of}
@@ -72,10 +72,12 @@ owner_from-position d b i (suc n) =
     let rest = ap (λ k. letter (position_from (has_block b) k (map (entry_at d) (range_with_len k n)))) (add-one i) ∙ owner_from-position d b (suc i) n in
     letter-cond _ i _ ∙ (λ j. cond (sym (has_block-at d i b) j) (97 + i) (rest j))
 
--- the letter of the first entry whose file has the block
-pub letter-position : (d : List ℕ) (b : ℕ) → letter (position (has_block b) (entries d)) ≡ owner_from d b 0 16
-unfolding entries
-letter-position d b = ap letter (position_from-zero (has_block b) (entries d)) ∙ owner_from-position d b 0 16
+-- a block behind those of the entries has the letter of the first entry whose file has it
+pub letter-block_char : (d : List ℕ) (b : ℕ) (o : Option ℕ) → 8 ≤ b → o ≡ position (has_block b) (entries d) → letter o ≡ block_char d b
+unfolding entries block_char
+letter-block_char d b o ge is =
+    let owned = ap letter (is ∙ position_from-zero (has_block b) (entries d)) ∙ owner_from-position d b 0 16 in
+    owned ∙ sym (cond-false _ _ _ (le-ltb b 8 ge))
 
 module _ (d : List ℕ) (b n : ℕ) (lt : b < n) where
   -- the last block of a line, or of all

@@ -1,5 +1,5 @@
 -- The entry and the file of a name, on a sound disk. Assumes nothing.
-use Rattle.std.proofs.Common.{◌≡◌, ℕ, ◌≤◌, Bool, true, false, ◌&&◌, ltb, ◌⊎◌, List, ◌++◌, length, Some, None, codes, Option, if◌then◌else◌, sym, refl, ap, ◌∙◌, subst, ⊎_elim, arith, Bor}
+use Rattle.std.proofs.Common.{◌≡◌, ℕ, ◌≤◌, Bool, true, false, ◌&&◌, ltb, List, ◌++◌, length, Some, None, codes, Option, sym, refl, ap, ◌∙◌, subst, ⊎_elim, arith, Bor}
 use Rattle.std.specs.Option.{option_map}
 use Rattle.std.specs.List.{between}
 use Rattle.std.proofs.lemmas.List.{take_at}

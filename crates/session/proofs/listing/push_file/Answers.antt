@@ -5,7 +5,7 @@ use Rattle.update.specs.declared.answer.Done.TheVariants.{Read}
 use Rattle.reader.specs.Answered.{ReadSays}
 use Rattle.console.specs.Shown.{shown_bytes}
 use Rattle.session.specs.Printed.{file_line}
-use Rattle.session.proofs.Named.{FileShown, file_shown, no_file_shown}
+use Rattle.session.proofs.Named.{file_shown, no_file_shown}
 use Rattle.session.proofs.Texts.{behind}
 use Rattle.session.proofs.listing.push_file.Goals as goal
 

@@ -1,6 +1,5 @@
-use Rattle.std.proofs.Common.{◌≡◌, ◌<◌, ◌++◌, get_or, vec_items, sym, refl, ap, ◌∙◌, append-nil}
+use Rattle.std.proofs.Common.{◌<◌, ◌++◌, get_or, vec_items, sym, refl, ap, ◌∙◌, append-nil}
 use Rattle.layout.specs.declared.entry.Entry.{Entry}
-use Rattle.layout.specs.Files.{entry_at}
 use Rattle.layout.proofs.Searching.{get_or-entries}
 use Rattle.session.specs.Printed.{file_line, files_from}
 use Rattle.session.proofs.Entries.{files_from_used, files_from_unused}

@@ -1,7 +1,4 @@
-use Rattle.std.proofs.Common.{◌-◌, ◌++◌, Some, vec_items, sym, refl, ap, ◌∙◌, subst}
-use Rattle.std.proofs.lemmas.Bool.{both_ways}
-use Rattle.fsck.specs.Faults.{place}
-use Rattle.fsck.proofs.Judging.{unsound_from_some}
+use Rattle.std.proofs.Common.{◌-◌, ◌++◌, vec_items, sym, ap, ◌∙◌, subst}
 use Rattle.unread.specs.Unread.{unread}
 use Rattle.unread.specs.Runs.{NextRun}
 use Rattle.console.specs.Shown.{shown_number}
