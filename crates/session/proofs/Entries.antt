@@ -1,24 +1,17 @@
 -- Files and blocks of a sound disk, one after the other. Assumes nothing.
-use Rattle.std.proofs.Common.{◌≡◌, ℕ, suc, ◌+◌, ◌-◌, ◌%◌, ◌<◌, Bool, true, false, eqb, ◌⊎◌, List, [], ◌∷◌, ◌++◌, None, sym, ap, ◌∙◌, ⊎_elim, add-one, arith}
-use Rattle.std.specs.List.{IsAnyAnswer}
+use Rattle.std.proofs.Common.{◌≡◌, ℕ, zero, suc, ◌+◌, ◌-◌, ◌%◌, ◌<◌, ◌≤◌, Bool, true, false, ◌&&◌, ◌||◌, cond, eqb, ◌⊎◌, List, [], ◌∷◌, ◌++◌, map, position, Some, None, Option, sym, refl, ap, ◌∙◌, ⊎_elim, add-one, arith}
+use Rattle.std.specs.List.{IsAnyAnswer, list_any, range_with_len, position_from}
+use Rattle.std.proofs.lemmas.Iterator.Adapters.{position_from-zero}
 use Rattle.std.proofs.lemmas.List.Elements.{contains_decides}
 use Rattle.std.proofs.lemmas.List.{get_or_default}
-use Rattle.std.proofs.lemmas.Bool.{cases_Bool, both_ways, cond-true, cond-false, or_from, or_left, or_right, eq-eqb, ne_eqb}
+use Rattle.std.proofs.lemmas.Bool.{cases_Bool, both_ways, cond-true, cond-false, or_from, or_left, or_right, eq-eqb, ne_eqb, le-ltb}
+use Rattle.std.proofs.lemmas.Bool.Decides.{Decides-eqb, nat_tests}
 use Rattle.layout.specs.declared.entry.Entry.{Entry}
 use Rattle.layout.specs.Entries.{blocks_of}
-use Rattle.layout.specs.Files.{entry_at, entry_if}
-use Rattle.layout.proofs.Finding.{none_from_cond}
+use Rattle.layout.specs.Files.{entry_at, entries}
 use Rattle.fsck.specs.Blocks.{blocks_at, has}
-use Rattle.fsck.specs.Sound.{sound}
-use Rattle.fsck.proofs.Contents.{sound_entry}
-use Rattle.fsck.proofs.Deciding.{sound_to_rules}
-use Rattle.fsck.proofs.Membership.{has_at, has_place, blocks_at_used, blocks_at_unused}
+use Rattle.fsck.proofs.Membership.{has_at, has_place, blocks_at_used}
 use Rattle.session.specs.Printed.{file_line, files_from, owner_from, block_char, blocks_from}
-use Rattle.std.proofs.lemmas.Bool.Decides.{Decides-eqb}
-
--- a sound disk has its entries
-pub entry_not_none : (d : List ℕ) (i : ℕ) → sound d ≡ true → i < 16 → None ≡ entry_if d i → ⊥
-entry_not_none d i ok lt none = both_ways _ (none_from_cond _ _ none) (sound_entry d 16 i (sound_to_rules d ok) lt)
 
 module _ (d : List ℕ) (i : ℕ) (e : Entry) (is : e ≡ entry_at d i) where
   pub files_from_used : e.used ≡ true → (m : ℕ) → files_from d i (suc m) ≡ file_line e.name.bytes e.len ++ files_from d (suc i) m
@@ -33,9 +26,6 @@ module _ (d : List ℕ) (i : ℕ) (e : Entry) (is : e ≡ entry_at d i) where
       let rest = files_from d (suc i) m in
       ap (λ l. l ++ rest) (cond-false _ _ _ (ap (λ (x : Entry). x.used) (sym is) ∙ unused))
 
-  pub has_unused : e.used ≡ false → (b : ℕ) → has (blocks_at d i) b ≡ false
-  has_unused unused b = ap (λ l. has l b) (blocks_at_unused d i (ap (λ (x : Entry). x.used) (sym is) ∙ unused))
-
   -- what `contains` answers of the blocks of an entry in use
   pub has_contains : e.used ≡ true → (b : ℕ) (bs : List ℕ) (r : Bool) → bs ≡ blocks_of e → IsAnyAnswer (λ x t. eqb x b ≡ t) bs r → has (blocks_at d i) b ≡ r
   has_contains used b bs r blocks answer =
@@ -46,18 +36,48 @@ module _ (d : List ℕ) (i : ℕ) (e : Entry) (is : e ≡ entry_at d i) where
       (λ no'. ⊎_elim (λ t. let p = decides.0 t in absurd (both_ways (has bs b) no' (ap (has bs) (sym (p.2 0)) ∙ has_at bs p.0 p.1))) (λ f. no' ∙ sym f) (cases_Bool r))
       (cases_Bool (has bs b))
 
-module _ (d : List ℕ) (b i : ℕ) (lt : i < 16) where
-  pub owner_here : has (blocks_at d i) b ≡ true → owner_from d b i (16 - i) ≡ 97 + i
-  unfolding owner_from
-  owner_here has-it =
-      let left : 16 - i ≡ suc (15 - i) = omega arith in
-      ap (owner_from d b i) left ∙ cond-true _ _ _ has-it
+eqb_swap : (a b : ℕ) → eqb a b ≡ eqb b a
+eqb_swap a b = grind (arith, nat_tests)
 
-  pub owner_behind : has (blocks_at d i) b ≡ false → owner_from d b i (16 - i) ≡ owner_from d b (i + 1) (16 - (i + 1))
-  unfolding owner_from
-  owner_behind hasn't =
-      let left : 16 - i ≡ suc (16 - (i + 1)) = omega arith in
-      ap (owner_from d b i) left ∙ cond-false _ _ _ hasn't ∙ ap (λ j. owner_from d b j (16 - (i + 1))) (sym (add-one i))
+-- whether some of the blocks is b
+pub list_any-has : (b : ℕ) (bs : List ℕ) → list_any (λ x. eqb x b) bs ≡ has bs b
+list_any-has b [] = refl
+list_any-has b (x ∷ bs) = (λ j. eqb_swap x b j || list_any-has b bs j)
+
+-- an entry is in use and its file has the block
+abbrev pub has_block : (block : ℕ) → Entry → Bool
+has_block b e = e.used && has (blocks_of e) b
+
+has_block-at : (d : List ℕ) (i b : ℕ) → has (blocks_at d i) b ≡ has_block b (entry_at d i)
+unfolding blocks_at
+has_block-at d i b = if_used (entry_at d i).used (blocks_of (entry_at d i))
+  where
+    if_used : (used : Bool) (bs : List ℕ) → has (cond used bs []) b ≡ (used && has bs b)
+    if_used true bs = refl
+    if_used false bs = refl
+
+-- the letter of an entry, or a dot for none
+abbrev pub letter : Option ℕ → ℕ
+letter None = 46
+letter (Some i) = 97 + i
+
+letter-cond : (t : Bool) (i : ℕ) (o : Option ℕ) → letter (cond t (Some i) o) ≡ cond t (97 + i) (letter o)
+letter-cond true i o = refl
+letter-cond false i o = refl
+
+owner_from-position : (d : List ℕ) (b i n : ℕ) → letter (position_from (has_block b) i (map (entry_at d) (range_with_len i n))) ≡ owner_from d b i n
+unfolding owner_from
+owner_from-position d b i zero = refl
+owner_from-position d b i (suc n) =
+    let rest = ap (λ k. letter (position_from (has_block b) k (map (entry_at d) (range_with_len k n)))) (add-one i) ∙ owner_from-position d b (suc i) n in
+    letter-cond _ i _ ∙ (λ j. cond (sym (has_block-at d i b) j) (97 + i) (rest j))
+
+-- a block behind those of the entries has the letter of the first entry whose file has it
+pub letter-block_char : (d : List ℕ) (b : ℕ) (o : Option ℕ) → 8 ≤ b → o ≡ position (has_block b) (entries d) → letter o ≡ block_char d b
+unfolding entries block_char
+letter-block_char d b o ge is =
+    let owned = ap letter (is ∙ position_from-zero (has_block b) (entries d)) ∙ owner_from-position d b 0 16 in
+    owned ∙ sym (cond-false _ _ _ (le-ltb b 8 ge))
 
 module _ (d : List ℕ) (b n : ℕ) (lt : b < n) where
   -- the last block of a line, or of all

@@ -19,11 +19,6 @@ made_behind (Err e) now xs ys zs is same = tt
 abbrev pub PutTo : (ℕ → ℕ → List ℕ) → (before out : List ℕ) → (n i : ℕ) → Type 0
 PutTo f before out n i = out ++ f i (n - i) ≡ before ++ f 0 n
 
-pub put_none : (f : ℕ → ℕ → List ℕ) (before : List ℕ) (n : ℕ) → PutTo f before before n 0
-put_none f before n =
-    let all : n - 0 ≡ n = omega arith in
-    ap (λ m. before ++ f 0 m) all
-
 module _ (f : ℕ → ℕ → List ℕ) (before out : List ℕ) (n i : ℕ) (so_far : PutTo f before out n i) where
   pub put_more : (now t : List ℕ) → i < n → f i (suc (n - (i + 1))) ≡ t ++ f (suc i) (n - (i + 1)) → now ≡ out ++ t → PutTo f before now n (i + 1)
   put_more now t lt step is =

@@ -2,7 +2,7 @@
 ghost use Rattle.std.specs.Prelude.{◌≡◌, List, ◌++◌, ◌&&◌, position, OnOk, IfOk};
 ghost use Rattle.std.specs.declared.ops.Range.{Range};
 ghost use Rattle.layout.specs.Entries.{blocks_of};
-ghost use Rattle.layout.specs.Files.{entries, file};
+ghost use Rattle.layout.specs.Files.{file};
 ghost use Rattle.fsck.specs.Blocks.{has};
 ghost use Rattle.unread.specs.Unread.{unread};
 ghost use Rattle.unread.specs.Runs.{Listed};

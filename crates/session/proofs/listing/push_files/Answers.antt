@@ -1,0 +1,26 @@
+use Rattle.std.proofs.Common.{◌<◌, ◌++◌, get_or, vec_items, sym, refl, ap, ◌∙◌, append-nil}
+use Rattle.layout.specs.declared.entry.Entry.{Entry}
+use Rattle.layout.proofs.Searching.{get_or-entries}
+use Rattle.session.specs.Printed.{file_line, files_from}
+use Rattle.session.proofs.Entries.{files_from_used, files_from_unused}
+use Rattle.session.proofs.Texts.{put_more, put_all}
+use Rattle.session.proofs.listing.push_files.Goals as goal
+use Rattle.session.proofs.listing.push_files.Goals.{then-entry+in_ok-push_file_line, else-entry}
+
+pub loop-entry-preserved : goal.loop-entry-preserved
+loop-entry-preserved c =
+    let d = c.args.disk.bytes.now in
+    let i = c.loop-entry.entry-index in
+    let out = vec_items c.loop-entry.out in
+    let lt : i < 16 = c.loop-entry-test.true in
+    let same = λ (e : Entry). ap (λ es. get_or es i e) c.entries.ensures ∙ get_or-entries d i e lt in
+    let more = put_more (files_from d) _ out 16 i c.loop-entry.invariant (vec_items c.if-entry.out) in
+    elim c.if-entry.branch [
+      | then-entry+in_ok-push_file_line w ↦
+          more _ lt (files_from_used d i _ (same _) w.if-entry.true _) (ap vec_items w.out-is ∙ w.in_ok-push_file_line.ensures ∙ ap (λ n. out ++ file_line _ n) w.from.ensures)
+      | else-entry w ↦ more _ lt (files_from_unused d i _ (same _) w.if-entry.false _) (ap vec_items w.out-is ∙ sym (append-nil out))
+    ]
+
+pub returns : goal.returns
+unfolding files_from
+returns c = put_all (files_from c.args.disk.bytes.now) _ _ 16 c.loop-entry.entry-index c.loop-entry.invariant c.loop-entry-test.false refl
