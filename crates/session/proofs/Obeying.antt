@@ -1,13 +1,12 @@
 -- What a command leaves, kind by kind. Assumes nothing.
-use Rattle.std.proofs.Common.{◌≡◌, ℕ, true, false, cond, ◌&&◌, eqb, List, [], ◌++◌, IfOk, Some, None, Ok, Err, Option, Result, sym, refl, ap, ◌∙◌, subst, append-nil, ⊎_elim, arith}
-use Rattle.std.proofs.lemmas.Bool.{cases_Bool, cond-true, cond-false, false≢true}
+use Rattle.std.proofs.Common.{◌≡◌, ℕ, false, cond, ◌&&◌, eqb, List, [], ◌++◌, IfOk, Some, None, Ok, Err, Option, Result, sym, refl, ap, ◌∙◌, subst, append-nil}
+use Rattle.std.proofs.lemmas.Bool.{cond-false}
 use Rattle.layout.specs.declared.name.Name.{Name}
 use Rattle.fsck.specs.Sound.{sound, first_fault}
 use Rattle.update.specs.declared.answer.Done.{Done}
 use Rattle.update.specs.declared.answer.Done.TheVariants.{Refused}
 use Rattle.update.specs.declared.answer.Refusal.{Refusal}
 use Rattle.update.specs.declared.answer.Refusal.TheVariants.{Unsound}
-use Rattle.fsck.proofs.Judging.{unsound_from_some}
 use Rattle.update.specs.declared.write.Write.{Write}
 use Rattle.update.specs.Asking.{begun, refusal, roomy}
 use Rattle.update.specs.Requests as r
@@ -15,11 +14,11 @@ use Rattle.update.proofs.Performing.{ask_unsound, put_unsound}
 use Rattle.console.specs.declared.command.Question.{Question}
 use Rattle.console.specs.declared.command.Question.TheVariants as q
 use Rattle.console.specs.declared.verb.Verb.{Verb}
-use Rattle.console.specs.Commands.{Said, disk, power, put, away, read, entry, list, check, unread, map_of, bad, said_of}
+use Rattle.console.specs.Commands.{Said, disk, put, away, bad, said_of}
 use Rattle.session.specs.Printed.{refused_line}
 use Rattle.session.specs.Prints.{Behind, ShowsIf}
 use Rattle.session.specs.Answered.{AnswersIf}
-use Rattle.session.specs.Obeyed.{lasting, uses_power, judges, fault_of, made_writes, asked_of, new_disk, disk_after, power_after, writes_of}
+use Rattle.session.specs.Obeyed.{lasting, uses_power, fault_of, made_writes, asked_of, new_disk, disk_after, power_after, writes_of}
 
 pub made_then : {T E : Type 0} (P Q : T → Type 0) (o : Result T E) → ((x : T) → P x → Q x) → IfOk o P → IfOk o Q
 made_then P Q (Ok x) f p = f x p

@@ -1,7 +1,8 @@
 // A disk in memory, and commands obeyed on it.
-ghost use Rattle.std.specs.Prelude.{◌≡◌, ℕ, ◌++◌, IfOk, if◌then◌else◌, None, Option, OnOk};
+ghost use Rattle.std.specs.Prelude.{◌≡◌, ℕ, [], ◌++◌, IfOk, if◌then◌else◌, None, Option, OnOk};
 ghost use Rattle.fsck.specs.Sound.{first_fault};
-ghost use Rattle.update.specs.declared.answer.Done.TheVariants.{Refused};
+ghost use Rattle.update.specs.declared.answer.Done.TheVariants.{Finished, Refused};
+ghost use Rattle.update.specs.declared.answer.Refusal.TheVariants.{Unsound};
 ghost use Rattle.update.specs.Asking.{asked};
 ghost use Rattle.console.specs.Commands.{said, said_of, bad};
 ghost use Rattle.session.specs.Kept.{Kept, StoppedAt};
@@ -142,18 +143,20 @@ impl Session {
         lasts
     }
 
-    // A new disk of zeros, in the place of the one that was there, if a disk may have so many blocks.
-    fn make_disk(&mut self, blocks: u64) -> Result<bool, AllocError>
-        ensures ok { IfOk result (λ b. (b ≡ size_fits blocks) × (self.new.disk.items ≡ new_disk self.old.disk.items blocks)) }
+    // A new disk of zeros, in the place of the one that was there, if a disk may have so many blocks; else it is refused.
+    fn make_disk(&mut self, blocks: u64, out: &mut Vec<u8>) -> Result<Done, AllocError>
+        ensures disk { OnOk result (self.new.disk.items ≡ new_disk self.old.disk.items blocks) }
         ensures power { self.new.power ≡ self.old.power }
+        ensures out { OnOk result (Behind out.old.items out.new.items (λ t. t ≡ (if size_fits blocks then [] else refused_line Unsound 16))) }
+        ensures answer { IfOk result (λ done. done ≡ (if size_fits blocks then Finished else Refused Unsound)) }
     {
         if !(Disk::LEAST as u64..=Disk::MOST as u64).contains(&blocks) {
-            return Ok(false);
+            return refuse(out, Refusal::Unsound, Fault::Size.place());
         }
         let len = blocks as usize * Disk::BLOCK;
         self.disk.clear();
         self.disk.resize(len, 0)?;
-        Ok(true)
+        Ok(Done::Finished)
     }
 
     // Performs the request, prints what came of it, and answers that: where the disk isn't sound, that it is refused for its first fault; a refusal for another reason is printed with this place. The writes that it made are put behind the others.
@@ -196,12 +199,7 @@ impl Session {
     {
         let lasts = self.take_power(command);
         match command {
-            Command::Disk { blocks, .. } => {
-                if self.make_disk(*blocks)? {
-                    return Ok(Done::Finished);
-                }
-                refuse(out, Refusal::Unsound, Fault::Size.place())
-            }
+            Command::Disk { blocks, .. } => self.make_disk(*blocks, out),
             Command::Power(writes) => {
                 self.power = Some(*writes);
                 Ok(Done::Finished)

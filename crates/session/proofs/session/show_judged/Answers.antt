@@ -1,5 +1,4 @@
-use Rattle.std.proofs.Common.{◌≡◌, ◌++◌, Some, vec_items, sym, ap, ◌∙◌, subst}
-use Rattle.fsck.specs.Sound.{first_fault}
+use Rattle.std.proofs.Common.{◌++◌, vec_items, ap, ◌∙◌, subst}
 use Rattle.fsck.specs.Faults.{place}
 use Rattle.unread.proofs.Refusals.{sound_no_fault, refused_place}
 use Rattle.update.specs.declared.answer.Refusal.TheVariants.{Unsound}

@@ -1,4 +1,4 @@
-use Rattle.std.proofs.Common.{◌≡◌, [], ◌++◌, Some, None, vec_items, sym, refl, ap, ◌∙◌, subst, append-nil}
+use Rattle.std.proofs.Common.{◌≡◌, ◌++◌, Some, None, vec_items, sym, refl, ap, ◌∙◌, subst, append-nil}
 use Rattle.std.proofs.lemmas.List.{with_items_is}
 use Rattle.fsck.specs.Sound.{first_fault}
 use Rattle.fsck.specs.Faults.{place}

@@ -9,61 +9,37 @@ use Rattle.session.proofs.Obeying.{made_then, idle_asked, idle_bad, disk_left, p
 use Rattle.session.proofs.Stopping.{stopped_at}
 use Rattle.session.proofs.session.Session.obey.Goals as goal
 
-pub returns-then-branch-clause-disk : goal.returns-then-branch-clause-disk
-returns-then-branch-clause-disk c =
+pub returns-in-Disk-clause-disk : goal.returns-in-Disk-clause-disk
+returns-in-Disk-clause-disk c =
     let d = vec_items c.args.self.now.disk in
     let p = c.args.self.now.power in
     let s = said c.args.command.now in
     let taken = c.take_power-lasts.ensures in
-    disk_left d p s (disk c.in-Disk.blocks c.in-Disk.line) (ap said c.in-Disk.is) _ (new_left d p c.in-Disk.blocks c.in-Disk.line _ _ (ap vec_items taken.disk) c.in_ok-make_disk-in-Disk.ensures.ok.1)
+    made_then _ _ c.make_disk.result (λ _ so. disk_left d p s (disk c.in-Disk.blocks c.in-Disk.line) (ap said c.in-Disk.is) _ (new_left d p c.in-Disk.blocks c.in-Disk.line _ _ (ap vec_items taken.disk) so)) c.make_disk.ensures.disk
 
-pub returns-then-branch-clause-power : goal.returns-then-branch-clause-power
-returns-then-branch-clause-power c =
+pub returns-in-Disk-clause-power : goal.returns-in-Disk-clause-power
+returns-in-Disk-clause-power c =
     let d = vec_items c.args.self.now.disk in
     let p = c.args.self.now.power in
     let s = said c.args.command.now in
     let taken = c.take_power-lasts.ensures in
-    power_kept d p s (disk c.in-Disk.blocks c.in-Disk.line) (ap said c.in-Disk.is) _ (c.in_ok-make_disk-in-Disk.ensures.power ∙ taken.left) (new_power d p c.in-Disk.blocks c.in-Disk.line)
+    made_anyway c.make_disk.result (power_kept d p s (disk c.in-Disk.blocks c.in-Disk.line) (ap said c.in-Disk.is) _ (c.make_disk.ensures.power ∙ taken.left) (new_power d p c.in-Disk.blocks c.in-Disk.line))
 
-pub returns-then-branch-clause-log : goal.returns-then-branch-clause-log
-returns-then-branch-clause-log c =
+pub returns-in-Disk-clause-log : goal.returns-in-Disk-clause-log
+returns-in-Disk-clause-log c =
     let d = vec_items c.args.self.now.disk in
     let p = c.args.self.now.power in
     let s = said c.args.command.now in
     let taken = c.take_power-lasts.ensures in
-    log_kept d p s (disk c.in-Disk.blocks c.in-Disk.line) (ap said c.in-Disk.is) _ (new_write d p c.in-Disk.blocks c.in-Disk.line)
+    made_anyway c.make_disk.result (log_kept d p s (disk c.in-Disk.blocks c.in-Disk.line) (ap said c.in-Disk.is) _ (new_write d p c.in-Disk.blocks c.in-Disk.line))
 
-pub returns-then-branch-clause-promise : goal.returns-then-branch-clause-promise
-returns-then-branch-clause-promise c =
+pub returns-in-Disk-clause-promise : goal.returns-in-Disk-clause-promise
+returns-in-Disk-clause-promise c =
     let d = vec_items c.args.self.now.disk in
     let p = c.args.self.now.power in
     let s = said c.args.command.now in
     let taken = c.take_power-lasts.ensures in
-    kept d p s _ (disk_left d p s (disk c.in-Disk.blocks c.in-Disk.line) (ap said c.in-Disk.is) _ (new_left d p c.in-Disk.blocks c.in-Disk.line _ _ (ap vec_items taken.disk) c.in_ok-make_disk-in-Disk.ensures.ok.1))
-
-pub returns-else-branch-clause-disk : goal.returns-else-branch-clause-disk
-returns-else-branch-clause-disk c =
-    let d = vec_items c.args.self.now.disk in
-    let p = c.args.self.now.power in
-    let s = said c.args.command.now in
-    let taken = c.take_power-lasts.ensures in
-    made_anyway c.refuse.result (disk_left d p s (disk c.in-Disk.blocks c.in-Disk.line) (ap said c.in-Disk.is) _ (new_left d p c.in-Disk.blocks c.in-Disk.line _ _ (ap vec_items taken.disk) c.in_ok-make_disk-in-Disk.ensures.ok.1))
-
-pub returns-else-branch-clause-power : goal.returns-else-branch-clause-power
-returns-else-branch-clause-power c =
-    let d = vec_items c.args.self.now.disk in
-    let p = c.args.self.now.power in
-    let s = said c.args.command.now in
-    let taken = c.take_power-lasts.ensures in
-    made_anyway c.refuse.result (power_kept d p s (disk c.in-Disk.blocks c.in-Disk.line) (ap said c.in-Disk.is) _ (c.in_ok-make_disk-in-Disk.ensures.power ∙ taken.left) (new_power d p c.in-Disk.blocks c.in-Disk.line))
-
-pub returns-else-branch-clause-log : goal.returns-else-branch-clause-log
-returns-else-branch-clause-log c =
-    let d = vec_items c.args.self.now.disk in
-    let p = c.args.self.now.power in
-    let s = said c.args.command.now in
-    let taken = c.take_power-lasts.ensures in
-    made_anyway c.refuse.result (log_kept d p s (disk c.in-Disk.blocks c.in-Disk.line) (ap said c.in-Disk.is) _ (new_write d p c.in-Disk.blocks c.in-Disk.line))
+    made_then _ _ c.make_disk.result (λ _ so. kept d p s _ (disk_left d p s (disk c.in-Disk.blocks c.in-Disk.line) (ap said c.in-Disk.is) _ (new_left d p c.in-Disk.blocks c.in-Disk.line _ _ (ap vec_items taken.disk) so))) c.make_disk.ensures.disk
 
 pub returns-in-Power-clause-disk : goal.returns-in-Power-clause-disk
 unfolding disk_after
