@@ -14,7 +14,7 @@ pub enum Question {
     Map,
 }
 
-#[derive(Drop)]
+#[derive(Debug, Drop, PartialEq, Eq)]
 pub enum Command {
     // A new disk of so many blocks, asked for on this line.
     Disk {

@@ -14,7 +14,7 @@ pub(crate) const RADIX: u8 = 0x10;
 pub fn hex_value(b: u8) -> Option<u8>
     ensures { result ≡ hex b }
 {
-    let digit = char::from(b).to_digit(16)?;
+    let digit = char::from(b).to_digit(u32::from(RADIX))?;
     Some(digit as u8)
 }
 

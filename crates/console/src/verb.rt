@@ -17,7 +17,7 @@ pub enum Verb {
 }
 
 impl Verb {
-    // The command that begins with the word.
+    // The command that begins with the word. It is no `TryFrom`: another word is no error, but perhaps a line of bytes.
     pub fn of(word: &[u8]) -> Option<Verb>
         ensures { result ≡ verb word.now }
     {

@@ -10,6 +10,7 @@ pub(crate) fn is_blank(b: u8) -> bool
     b == b' ' || b == b'\t'
 }
 
+// This and the next three have one chain each, and no function with a closure in common: its contract would be longer than they are.
 // How many blanks the text begins with.
 fn blanks_before(text: &[u8]) -> usize
     ensures value { result ≡ prefix_len blank text.now }

@@ -14,7 +14,7 @@ pub enum Fault {
 }
 
 impl Fault {
-    // The number that is printed for it: the entry's, or, for the size, the one behind the last entry's.
+    // The number that is printed for it: the entry's, or, for the size, the one behind the last entry's. A name, and no `From`, says which number it is.
     pub fn place(self) -> usize
         ensures { result ≡ place self }
     {

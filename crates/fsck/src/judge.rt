@@ -29,7 +29,7 @@ fn is_fresh(b: u8, size: usize, taken: &BlockSet) -> bool
     (Disk::ENTRY_BLOCKS..size).contains(&usize::from(b)) && !taken.contains(b)
 }
 
-// Puts the blocks into the set, up to one that is not fresh, if there is one.
+// Puts the blocks into the set, up to one that is not fresh, if there is one. Says whether all were: a `bool`, since nothing more is to be known of one that wasn't.
 fn take_blocks(blocks: &[u8], size: usize, taken: &mut BlockSet) -> bool
     ensures value { result ≡ blocks_ok size (member taken.old) blocks.now }
     ensures taken { result ≡ true → (k : ℕ) → member taken.new k ≡ (has blocks.now k || member taken.old k) }

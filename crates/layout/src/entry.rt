@@ -45,7 +45,7 @@ impl Entry {
 
     const UNREAD_AT: usize = Entry::BLOCKS_AT + Disk::FILE_BLOCKS;
 
-    // The entry that 32 bytes spell.
+    // The entry that 32 bytes spell. It is no `From`, since something is lost: any first byte but 1 is read as not in use.
     pub fn decode(bytes: &[u8; Disk::ENTRY]) -> Entry
         ensures fields { result ≡ decoded bytes.now }
         ensures back { slice_index bytes.now 0 ≤ 1 → encoded result ≡ bytes.now }
@@ -60,7 +60,7 @@ impl Entry {
             unread: array(&bytes[Entry::UNREAD_AT..Disk::ENTRY]),
         }
     }
-    // The 32 bytes that spell this entry.
+    // The 32 bytes that spell this entry. Named as `decode` is, whose other half it is.
     pub fn encode(&self) -> [u8; Disk::ENTRY]
         ensures bytes { result ≡ encoded self.now }
         ensures back { decoded result ≡ self.now }

@@ -27,10 +27,9 @@ impl TryFrom<&[u8]> for Name {
 
     // The name of these bytes, unless they are not eleven.
     fn try_from(bytes: &[u8]) -> Result<Name, WrongLength> {
-        match <[u8; Name::SIZE]>::try_from(bytes) {
-            Ok(bytes) => Ok(Name { bytes }),
-            Err(_) => Err(WrongLength { len: bytes.len() }),
-        }
+        let wrong = WrongLength { len: bytes.len() };
+        let bytes = <[u8; Name::SIZE]>::try_from(bytes).or(Err(wrong))?;
+        Ok(Name { bytes })
     }
 }
 

@@ -61,7 +61,7 @@ impl Error for Difference {}
 // Whether the answer is the one that had to come, with power for so many writes.
 pub fn is_answer(answer: Done, verdict: Verdict, lasts: u64) -> bool {
     match (answer, verdict) {
-        (Done::Refused(refusal), Verdict::Refused(why)) => refusal.number() == why.number(),
+        (Done::Refused(refusal), Verdict::Refused(why)) => refusal == why,
         (Done::Full, Verdict::Full) => true,
         (Done::Finished, Verdict::Begun(writes)) => lasts >= writes,
         (Done::Cut, Verdict::Begun(writes)) => lasts < writes,

@@ -69,6 +69,7 @@ impl<'a> Machine<'a> {
     fn take_blocks(&self, i: usize, taken: &mut [bool; 256]) -> bool
         requires { i < 16 }
     {
+        // By number: the blocks of an entry are asked for one by one, and are no slice here.
         for k in 0..self.filled(i).min(16) {
             let b = self.block(i, k);
             if b < 8 || b >= self.disk.len() / 64 || taken[b] {
@@ -122,6 +123,7 @@ impl<'a> Machine<'a> {
     // The file's bytes, once they are in the room; nothing where there is no file, or where it has more bytes than the room.
     pub fn read<'r>(&self, name: &[u8], room: &'r mut [u8; LONGEST]) -> Option<&'r [u8]> {
         let i = self.find(name)?;
+        // By number, as above; and a block past the end of the disk leaves its part of the room alone.
         for k in 0..self.filled(i).min(16) {
             let from = 64 * self.block(i, k);
             if let Some(block) = self.disk.get(from..from + 64) {

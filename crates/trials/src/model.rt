@@ -19,7 +19,7 @@ pub struct Model {
 }
 
 // What has to come of a change.
-#[derive(Clone, Copy)]
+#[derive(Clone, Copy, Debug, PartialEq, Eq)]
 pub enum Verdict {
     Refused(Refusal),
     Full,

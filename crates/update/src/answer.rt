@@ -22,7 +22,7 @@ pub enum Refusal {
 }
 
 impl Refusal {
-    // The number under which the refusal is known.
+    // The number under which the refusal is known. A name, and no `From`, says which number it is.
     pub fn number(self) -> usize
         ensures { result ≡ number self }
     {
@@ -86,7 +86,7 @@ impl From<Refusal> for Done {
 }
 
 impl Done {
-    // The number that goes with the answer: a length, or a refusal's number.
+    // The number that goes with the answer: a length, or a refusal's number. A name, and no `From`, says which.
     pub fn value(self) -> usize
         ensures { result ≡ value self }
     {

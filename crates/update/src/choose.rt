@@ -40,6 +40,7 @@ fn first_unused(disk: SoundDisk<'_>) -> Option<usize>
 pub(crate) fn choose_entry(disk: SoundDisk<'_>, name: &Name) -> Option<usize>
     ensures { result ≡ (if nat_lt (place_for disk.entry.bytes.now name.now.bytes) 16 then Some (place_for disk.entry.bytes.now name.now.bytes) else None) }
 {
+    // No `or_else`: what its closure gives isn't known in the proof.
     if let Some(place) = disk.view().find(name) {
         return Some(place);
     }
