@@ -1,8 +1,9 @@
 // A disk that was found sound.
-ghost use Rattle.std.specs.Prelude.{◌≡◌, true, Some, MatchResult};
+ghost use Rattle.std.specs.Prelude.{◌≡◌, true, Some, None, MatchResult, IfOk, IfErr};
 ghost use Rattle.layout.specs.Files.{entries};
 ghost use Rattle.fsck.specs.Sound.{sound, first_fault};
 ghost use Rattle.fsck.specs.Faults.{fault_of_place};
+ghost use Rattle.fsck.specs.Faults as faults;
 ghost use Rattle.fsck.specs.Blocks.{size};
 ghost use Rattle.std.specs.Option.{option_map};
 
@@ -21,7 +22,9 @@ pub struct SoundDisk<'a> {
 impl<'a> SoundDisk<'a> {
     // The disk, if it is sound; else its first fault.
     pub fn check(bytes: &'a [u8]) -> Result<SoundDisk<'a>, Fault>
-        ensures { MatchResult result (λ disk. (sound bytes.now ≡ true) × (disk.bytes ≡ bytes.entry)) (λ fault. option_map fault_of_place (first_fault bytes.now) ≡ Some fault) }
+        ensures answer { MatchResult result (λ disk. (sound bytes.now ≡ true) × (disk.bytes ≡ bytes.entry)) (λ fault. option_map fault_of_place (first_fault bytes.now) ≡ Some fault) }
+        ensures faultless { IfOk result (λ _. first_fault bytes.now ≡ None) }
+        ensures place { IfErr result (λ fault. first_fault bytes.now ≡ Some (faults.place fault)) }
     {
         match first_fault(bytes) {
             None => Ok(SoundDisk { bytes }),

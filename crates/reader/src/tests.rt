@@ -32,9 +32,15 @@ fn rose(heap: Global) -> Result<Vec<u8>, AllocError> {
 fn a_file_in_rooms_of_several_sizes(rt: HostRuntime) -> Result<(), Fail> {
     let disk = rose(rt.alloc())?;
     let mut room = [1; 4];
-    assert_eq!(rt; read_file(disk.as_slice(), ROSE, &mut room[0..2]), Done::Short(3));
+    assert_eq!(rt;
+        read_file(disk.as_slice(), ROSE, &mut room[0..2]),
+        Done::Short(3)
+    );
     assert_eq!(rt; room, [1, 1, 1, 1]);
-    assert_eq!(rt; read_file(disk.as_slice(), b"LEAF       ", &mut room), Done::Absent);
+    assert_eq!(rt;
+        read_file(disk.as_slice(), b"LEAF       ", &mut room),
+        Done::Absent
+    );
     assert_eq!(rt; room, [1, 1, 1, 1]);
     assert_eq!(rt; read_file(disk.as_slice(), ROSE, &mut room), Done::Read(3));
     assert_eq!(rt; room, [7, 7, 7, 1]);
@@ -45,8 +51,14 @@ fn a_file_in_rooms_of_several_sizes(rt: HostRuntime) -> Result<(), Fail> {
 fn refusals_in_their_order(rt: HostRuntime) -> Result<(), Fail> {
     let disk = rose(rt.alloc())?;
     let mut room = [1; 4];
-    assert_eq!(rt; read_file(disk.as_slice(), b"ROSE", &mut room), Done::Refused(Refusal::BadName));
-    assert_eq!(rt; read_file(b"no disk", b"ROSE", &mut room), Done::Refused(Refusal::Unsound));
+    assert_eq!(rt;
+        read_file(disk.as_slice(), b"ROSE", &mut room),
+        Done::Refused(Refusal::BadName)
+    );
+    assert_eq!(rt;
+        read_file(b"no disk", b"ROSE", &mut room),
+        Done::Refused(Refusal::Unsound)
+    );
     assert_eq!(rt; room, [1, 1, 1, 1]);
     assert!(rt; entry_of(b"no disk", ROSE).is_empty());
     assert!(rt; entry_of(disk.as_slice(), b"ROSE").is_empty());

@@ -1,4 +1,3 @@
-pub mod Refusals
 pub mod Extents
 pub mod Reach
 pub mod ContentBytes

@@ -12,7 +12,7 @@ use fsck::fault::Fault;
 use fsck::sound_disk::SoundDisk;
 
 // Whether the place is one of the disk's that the old machine doesn't read. A disk that isn't sound is refused with its first fault.
-#[tactic(auto, using(crate::proofs::Completeness::complete, crate::proofs::Refusals::refused_place, crate::proofs::Refusals::sound_no_fault, crate::proofs::Reach::unread_off_disk))]
+#[tactic(auto, using(crate::proofs::Completeness::complete, crate::proofs::Reach::unread_off_disk))]
 pub fn is_unread(disk: &[u8], place: usize) -> Result<bool, Fault>
     ensures value { result ≡ answered disk.now (unread disk.now place) }
     ensures places { IfErr result (λ fault. first_fault disk.now ≡ Some (faults.place fault)) }

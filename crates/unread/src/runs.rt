@@ -37,7 +37,7 @@ impl<'a> Runs<'a> {
 }
 
 // The runs of unread places of the disk, from its first on. A disk that isn't sound is refused with its first fault.
-#[tactic(auto, using(crate::proofs::Completeness::complete, crate::proofs::Refusals::refused_place, crate::proofs::Refusals::sound_no_fault, crate::proofs::Stepping::just_these))]
+#[tactic(auto, using(crate::proofs::Completeness::complete, crate::proofs::Stepping::just_these))]
 pub fn unread_runs(disk: &[u8]) -> Result<Runs<'_>, Fault>
     ensures answer { MatchResult result (λ runs. (first_fault disk.now ≡ None) × (runs.disk.bytes ≡ disk.entry) × (runs.at ≡ 0)) (λ fault. option_map fault_of_place (first_fault disk.now) ≡ Some fault) }
     ensures places { IfErr result (λ fault. first_fault disk.now ≡ Some (faults.place fault)) }

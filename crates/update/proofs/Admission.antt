@@ -1,14 +1,12 @@
 -- A request that is admitted, and one that isn't. Assumes nothing.
-use Rattle.std.proofs.Common.{◌≡◌, ℕ, ◌<◌, ◌≤◌, Bool, true, false, cond, ◌&&◌, ltb, List, is_some, Some, None, Ok, Err, Option, Result, sym, refl, ap, ◌∙◌, ⊎_elim, arith}
-use Rattle.std.specs.Option.{ok_or, option_map}
+use Rattle.std.proofs.Common.{◌≡◌, ℕ, ◌<◌, ◌≤◌, Bool, true, false, cond, ◌&&◌, ltb, List, Some, None, Ok, Err, Result, sym, refl, ap, ◌∙◌, ⊎_elim, arith}
+use Rattle.std.specs.Option.{ok_or}
 use Rattle.std.specs.Result.{IsErrAnd, MatchResult}
 use Rattle.std.proofs.lemmas.Bool.{cond-true, cond-false, cases_Bool, cases_lt, both_ways, and_parts, and_left, and_right, ltb-true}
 use Rattle.layout.specs.declared.name.Name.{Name}
 use Rattle.layout.specs.Entries.{as_name, named}
 use Rattle.layout.specs.Files.{has_entry, has_entries, find, found}
 use Rattle.layout.proofs.Finding.{some_from_cond, none_from_cond}
-use Rattle.fsck.specs.declared.fault.Fault.{Fault}
-use Rattle.fsck.specs.Faults.{fault_of_place}
 use Rattle.fsck.specs.Sound.{sound, first_fault}
 use Rattle.fsck.proofs.Judging.{unsound_from_some}
 use Rattle.fsck.proofs.Deciding.{sound_to_rules}
@@ -32,14 +30,6 @@ admitted-sound d x ok = cond-true _ _ _ ok ∙ by_name (good_name x)
     by_name true = refl
     by_name false = refl
 
--- a disk that has a fault isn't sound
-faulty : (d : List ℕ) (fault : Fault) → option_map fault_of_place (first_fault d) ≡ Some fault → sound d ≡ false
-faulty d fault is = unsound_from_some d (first_fault d) refl (some_there (first_fault d) is)
-  where
-    some_there : (o : Option ℕ) → option_map fault_of_place o ≡ Some fault → is_some o ≡ true
-    some_there None is = cc
-    some_there (Some p) is = refl
-
 -- what is answered is that refusal
 module _ {A : Type 0} (d x : List ℕ) (fine : A → Type 0) (r : Result A Refusal) where
   answers : (q : Refusal) → IsErrAnd r (λ e. e ≡ q) → admitted d x ≡ Err q → MatchResult r fine (λ e. admitted d x ≡ Err e)
@@ -49,8 +39,8 @@ module _ {A : Type 0} (d x : List ℕ) (fine : A → Type 0) (r : Result A Refus
       told (Ok a) same = absurd same
       told (Err e) same = why ∙ ap Err (sym same)
 
-  pub answers_unsound : (fault : Fault) → option_map fault_of_place (first_fault d) ≡ Some fault → IsErrAnd r (λ e. e ≡ Unsound) → MatchResult r fine (λ e. admitted d x ≡ Err e)
-  answers_unsound fault found is = answers Unsound is (admitted_unsound d x (faulty d fault found))
+  pub answers_unsound : (p : ℕ) → first_fault d ≡ Some p → IsErrAnd r (λ e. e ≡ Unsound) → MatchResult r fine (λ e. admitted d x ≡ Err e)
+  answers_unsound p found is = answers Unsound is (admitted_unsound d x (unsound_from_some d (Some p) (sym found) refl))
 
   pub answers_bad_name : sound d ≡ true → named x ≡ None → IsErrAnd r (λ e. e ≡ BadName) → MatchResult r fine (λ e. admitted d x ≡ Err e)
   answers_bad_name ok none is = answers BadName is (admitted-sound d x ok ∙ ap (λ o. ok_or o BadName) none)
