@@ -7,6 +7,7 @@ use layout::name::Name;
 use std::alloc::{AllocError, Global};
 use std::test::Fail;
 
+// Each crate's tests make their own entries, since no crate is there for tests alone.
 // An entry in use, with a name of one letter repeated.
 fn entry(letter: u8, len: u16, first: u8, second: u8) -> Entry {
     let mut blocks = [0; Disk::FILE_BLOCKS];

@@ -6,6 +6,7 @@ use layout::disk::Disk;
 use layout::entry::Entry;
 use layout::name::Name;
 use std::alloc::{AllocError, Global};
+use std::array;
 use std::test::Fail;
 
 // The first place of each range, and the first behind it.
@@ -38,14 +39,10 @@ const RANGES: [(usize, usize); 19] = [
     (1828, 1920),
 ];
 
+// Each crate's tests make their own entries, since no crate is there for tests alone.
 // An entry in use, with a name of one letter repeated and blocks from the first on.
 fn entry(letter: u8, len: u16, first: u8) -> Entry {
-    let mut blocks = [0; Disk::FILE_BLOCKS];
-    let mut b = first;
-    for block in &mut blocks {
-        *block = b;
-        b = b.saturating_add(1);
-    }
+    let blocks = array::from_fn(|k| first.saturating_add(k as u8));
     Entry {
         used: true,
         name: Name {

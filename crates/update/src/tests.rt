@@ -11,6 +11,7 @@ const ROSE: &[u8; Name::SIZE] = b"ROSE       ";
 
 const LEAF: &[u8; Name::SIZE] = b"LEAF       ";
 
+// Each crate's tests make their own entries, since no crate is there for tests alone.
 fn entry(name: &[u8; Name::SIZE], block: u8) -> Entry {
     Entry {
         used: true,
