@@ -2,9 +2,8 @@
 use Rattle.std.proofs.Common.{◌≡◌, ℕ, zero, suc, ◌+◌, ◌*◌, ◌<◌, ◌≤◌, Bool, true, false, cond, ◌&&◌, ltb, List, length, Some, None, Decides, sym, refl, ap, ◌∙◌, subst, ⊎_elim, arith, length-drop, length-take}
 use Rattle.std.specs.Option.{option_map}
 use Rattle.std.proofs.lemmas.Slice.Eq.{bytes_eq-Decides}
-use Rattle.std.proofs.lemmas.Bool.{cases_Bool, cases_eq, cases_lt, cond-true, cond-false, both_ways, lt-ltb, le-ltb, leb-true, ltb-true, and_parts, and_from, and_cases}
+use Rattle.std.proofs.lemmas.Bool.{cases_Bool, cases_eq, cases_lt, cond-true, cond-false, both_ways, lt-ltb, le-ltb, leb-true, ltb-true, and_parts, and_cases}
 use Rattle.std.proofs.lemmas.Bool.Decides.{Decides-and, not_from_Decides}
-use Rattle.layout.specs.declared.entry.Entry.{Entry}
 use Rattle.layout.specs.Files.{has_entries, has_entry, entry_bytes, entry_at, entry_if, block, content, has_name, find_from, find, found, entry_of, file}
 use Rattle.layout.specs.Words.{Named, First, NoFile}
 
@@ -87,31 +86,6 @@ some_from_cond false x y is = let z : ◌≡◌ {A = ℕ} 0 1 = cc in absurd (le
 pub none_from_cond : {A : Type 0} (b : Bool) (y : A) → None ≡ cond b (Some y) None → b ≡ false
 none_from_cond true y is = let z : ◌≡◌ {A = ℕ} 0 1 = cc in absurd (let b : ⊥ = omega arith in b)
 none_from_cond false y is = refl
-
--- what is known of an entry that was there
-pub entry_if_some : (d : List ℕ) (i : ℕ) (e : Entry) → Some e ≡ entry_if d i → (has_entries d ≡ true) × (i < 16) × (e ≡ entry_at d i)
-entry_if_some d i e is =
-    let known = some_from_cond _ _ _ is in
-    let parts = and_parts (has_entries d) (ltb i 16) known.0 in
-    (parts.0, ltb-true i 16 parts.1, known.1)
-
--- the place that the first entry with the name has
-pub found_at : (d x : List ℕ) (i : ℕ) → has_entries d ≡ true → i < 16 → First d x i → Some i ≡ found d x
-found_at d x i there lt first =
-    let same : i ≡ find d x = first_unique d x i _ first (find_first d x) in
-    let in' : find d x < 16 = subst (λ k. k < 16) same lt in
-    ap Some same ∙ sym (cond-true _ (Some (find d x)) None (and_from _ _ there (lt-ltb _ _ in')))
-
-pub found_none : (d x : List ℕ) → (has_entries d ≡ true → (k : ℕ) → k < 16 → Named d x k → ⊥) → None ≡ found d x
-found_none d x nowhere =
-    let f = find_first d x in
-    ⊎_elim
-    (λ there.
-    let parts = and_parts (has_entries d) (ltb (find d x) 16) there in
-    let lt = ltb-true (find d x) 16 parts.1 in
-    absurd (nowhere parts.0 (find d x) lt (f.here lt)))
-    (λ gone. sym (cond-false _ (Some (find d x)) None gone))
-    (cases_Bool (has_entries d && ltb (find d x) 16))
 
 -- the entry of the name, from its place
 pub lookup_some : (d x : List ℕ) (i : ℕ) → Some i ≡ found d x → entry_if d i ≡ cond (has_entries d) (entry_of d x) None

@@ -1,8 +1,8 @@
 -- The first of a row of entries that passes a test, and its place in the list of them. Assumes nothing.
-use Rattle.std.proofs.Common.{◌≡◌, ℕ, zero, suc, ◌+◌, ◌<◌, get_or, length, Bool, true, false, not, ◌&&◌, cond, map, position, Some, None, List, ltb, sym, ap, ◌∙◌, add-one, arith}
+use Rattle.std.proofs.Common.{◌≡◌, ℕ, zero, suc, ◌+◌, ◌<◌, get_or, Bool, true, false, not, ◌&&◌, cond, map, position, Some, None, List, ltb, sym, ap, ◌∙◌, add-one, arith}
 use Rattle.std.specs.List.{range_with_len, position_or_len}
 use Rattle.std.specs.Str.{bytes_eq}
-use Rattle.std.proofs.lemmas.List.FromFn.{length-map-range_with_len, get_or-map-range_with_len}
+use Rattle.std.proofs.lemmas.List.FromFn.{get_or-map-range_with_len}
 use Rattle.layout.specs.declared.entry.Entry.{Entry}
 use Rattle.layout.specs.Files.{entries, entry_at, has_name, find_from, find}
 
@@ -24,10 +24,6 @@ position-find d x =
     let place = find_from-position d x 0 16 in
     let same : position_or_len (λ (e : Entry). e.used && bytes_eq e.name.bytes x) (map (entry_at d) (range_with_len 0 16)) ≡ find_from d x 0 16 = omega (arith, place) in
     ap (λ n. cond (ltb n 16) (Some n) None) same
-
-pub length-entries : (d : List ℕ) → length (entries d) ≡ 16
-unfolding entries
-length-entries d = length-map-range_with_len (entry_at d) 0 16
 
 -- entry i in the list of all
 pub get_or-entries : (d : List ℕ) (i : ℕ) (e : Entry) → i < 16 → get_or (entries d) i e ≡ entry_at d i

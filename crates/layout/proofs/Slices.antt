@@ -1,7 +1,7 @@
 -- Parts of lists of bytes: one put in the place of another, and fronts. Assumes nothing.
 use Rattle.std.proofs.Common.{◌≡◌, ℕ, zero, suc, ◌+◌, ◌-◌, ◌≤◌, min, List, [], ◌∷◌, ◌++◌, length, take, drop, sym, refl, ap, ◌∙◌, ⊎_elim, append_assoc, arith, length-append, length-drop, length-take}
 use borrow.Rule.Slice.PartMut.{put_mid}
-use Rattle.std.proofs.lemmas.List.{drop_all, drop-drop, drop-take, drop-append-le, take_all, take-take, take-append-le, take_at, drop_at, length-take-le}
+use Rattle.std.proofs.lemmas.List.{drop-drop, drop-take, drop-append-le, take_all, take-take, take-append-le, take_at, drop_at, length-take-le}
 use Rattle.std.proofs.lemmas.Slice.{drop-put_mid}
 use Rattle.std.proofs.lemmas.Bool.{cases_lt}
 use Rattle.layout.specs.Parts.{replaced}
@@ -13,13 +13,6 @@ take_min n m xs h =
     (λ less. ap (λ k. take k xs) (omega arith))
     (λ more. ap (λ k. take k xs) (let e : min n m ≡ m = omega arith in e) ∙ take_all m xs h ∙ sym (take_all n xs (omega arith)))
     (cases_lt n m)
-
-pub drop_min : (n : ℕ) (xs : List ℕ) → drop (min n (length xs)) xs ≡ drop n xs
-drop_min n xs =
-    ⊎_elim
-    (λ less. ap (λ k. drop k xs) (let e : min n (length xs) ≡ n = omega arith in e))
-    (λ more. drop_all (min n (length xs)) xs (omega arith) ∙ sym (drop_all n xs (omega arith)))
-    (cases_lt n (length xs))
 
 -- what a write through `&mut bs[at..at + k]` leaves
 pub put_mid-replaced : (at k : ℕ) (bs now p : List ℕ) → now ≡ p → k ≡ length p → put_mid at k bs now ≡ replaced bs at p

@@ -4,7 +4,6 @@ use Rattle.std.proofs.lemmas.Bool.{cond-false}
 use Rattle.layout.specs.declared.name.Name.{Name}
 use Rattle.fsck.specs.Sound.{sound, first_fault}
 use Rattle.update.specs.declared.answer.Done.{Done}
-use Rattle.update.specs.declared.answer.Done.TheVariants.{Refused}
 use Rattle.update.specs.declared.answer.Refusal.{Refusal}
 use Rattle.update.specs.declared.answer.Refusal.TheVariants.{Unsound}
 use Rattle.update.specs.declared.write.Write.{Write}
@@ -54,9 +53,6 @@ answered o answer answers none it = subst (λ f. AnswersIf f answer answers) (sy
 -- and where it has one
 pub printed_fault : (o : Option ℕ) (f : ℕ) (shows : List ℕ → Type 0) (was now : List ℕ) → o ≡ Some f → now ≡ was ++ refused_line Unsound f → Behind was now (λ t. ShowsIf o t (shows t))
 printed_fault o f shows was now found is = record { text = refused_line Unsound f; fits = subst (λ g. ShowsIf g (refused_line Unsound f) (shows (refused_line Unsound f))) (sym found) refl; put_behind = is }
-
-pub answered_fault : (o : Option ℕ) (f : ℕ) (answer : Done) (answers : Type 0) → o ≡ Some f → answer ≡ Refused Unsound → AnswersIf o answer answers
-answered_fault o f answer answers found is = subst (λ g. AnswersIf g answer answers) (sym found) is
 
 -- the disk is judged for every question
 pub fault_asked : (d : List ℕ) (k : Question) → fault_of d (said_of k) ≡ first_fault d
