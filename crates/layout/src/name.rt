@@ -2,9 +2,6 @@
 ghost use Rattle.std.specs.Prelude.{◌≡◌, Some, None, MatchResult, length};
 ghost use Rattle.layout.specs.Entries.{named};
 
-use std::error::Error;
-use std::fmt;
-
 #[derive(Clone, Copy, Debug, PartialEq, Eq)]
 pub struct Name {
     pub bytes: [u8; Name::SIZE],
@@ -32,11 +29,3 @@ impl TryFrom<&[u8]> for Name {
         Ok(Name { bytes })
     }
 }
-
-impl fmt::Display for WrongLength {
-    fn fmt<W: fmt::Write>(&self, f: &mut fmt::Formatter<W>) -> fmt::Result {
-        write!(f, "a name has {} bytes, and not {}", Name::SIZE, self.len)
-    }
-}
-
-impl Error for WrongLength {}

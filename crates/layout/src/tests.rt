@@ -25,9 +25,7 @@ fn junk_in_block_numbers(rt: HostRuntime) -> Result<(), Fail> {
     let mut blocks = [250; Disk::FILE_BLOCKS];
     blocks[0] = 9;
     blocks[1] = 8;
-    let name = Name {
-        bytes: *b"ROSE       ",
-    };
+    let name = Name::try_from(&b"ROSE       "[..]).or(Err("eleven bytes"))?;
     let entry = Entry {
         used: true,
         name,

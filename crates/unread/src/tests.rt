@@ -99,8 +99,11 @@ fn disks_that_are_not_sound(rt: HostRuntime) -> Result<(), Fail> {
     if let Some(flag) = disk.get_mut(3 * Disk::ENTRY) {
         *flag = 2;
     }
-    assert_eq!(rt; is_unread(disk.as_slice(), 0), Err(Fault::Entry(3)));
-    assert_eq!(rt; unread_runs(disk.as_slice()).err(), Some(Fault::Entry(3)));
-    assert_eq!(rt; is_unread(&[], 0), Err(Fault::Size));
+    assert_eq!(rt; is_unread(disk.as_slice(), 0).map_err(Fault::place), Err(3));
+    assert_eq!(rt;
+        unread_runs(disk.as_slice()).err().map(Fault::place),
+        Some(3)
+    );
+    assert_eq!(rt; is_unread(&[], 0).map_err(Fault::place), Err(16));
     Ok(())
 }
