@@ -1,7 +1,7 @@
 // A disk compared with the files that it should have, as the library reads it and as the machine does.
 use crate::change::NAMES;
 use crate::machine::{LONGEST, Machine};
-use crate::model::{Model, Name, Verdict};
+use crate::model::{Model, Name};
 use fsck::judge::first_fault;
 use fsck::usage::blocks_in_use;
 use layout::disk::Disk;
@@ -58,14 +58,12 @@ impl fmt::Display for Difference {
 
 impl Error for Difference {}
 
-// Whether the answer is the one that had to come, with power for so many writes.
-pub fn is_answer(answer: Done, verdict: Verdict, lasts: u64) -> bool {
-    match (answer, verdict) {
-        (Done::Refused(refusal), Verdict::Refused(why)) => refusal == why,
-        (Done::Full, Verdict::Full) => true,
-        (Done::Finished, Verdict::Begun(writes)) => lasts >= writes,
-        (Done::Cut, Verdict::Begun(writes)) => lasts < writes,
-        _ => false,
+// The answer that has to come, with power for so many writes.
+pub fn expected(writes: Result<u64, Done>, lasts: u64) -> Done {
+    match writes {
+        Ok(writes) if lasts >= writes => Done::Finished,
+        Ok(_) => Done::Cut,
+        Err(answer) => answer,
     }
 }
 
@@ -123,24 +121,18 @@ fn compare_asked(
     Ok(())
 }
 
-// Whether the entry is there and, if it is in use, has a file of the model with its length.
-fn is_listed(entry: Option<Entry>, model: &Model) -> bool {
-    entry.is_some_and(|entry| {
-        !entry.used
-            || model
-                .file(&entry.name.bytes)
-                .is_some_and(|content| content.len() == usize::from(entry.len))
-    })
+// Whether a file of the model has the entry's name and length.
+fn is_listed(entry: &Entry, model: &Model) -> bool {
+    model
+        .file(&entry.name.bytes)
+        .is_some_and(|content| content.len() == usize::from(entry.len))
 }
 
 // The names and lengths of all files.
 fn compare_listing(disk: &[u8], model: &Model) -> Result<(), Difference> {
-    let view = Disk::new(disk);
-    let listed = (0..Disk::ENTRIES).all(|i| is_listed(view.entry(i), model));
-    let used = (0..Disk::ENTRIES)
-        .filter_map(|i| view.entry(i))
-        .filter(|entry| entry.used)
-        .count();
+    let entries = Disk::new(disk).entries().ok_or(Difference::Listing)?;
+    let listed = entries.iter().all(|entry| !entry.used || is_listed(entry, model));
+    let used = entries.iter().filter(|entry| entry.used).count();
     if !listed || used != model.len() || Machine::new(disk).files() != used {
         return Err(Difference::Listing);
     }

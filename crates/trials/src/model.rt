@@ -3,7 +3,7 @@ use crate::change::Change;
 use crate::machine::LONGEST;
 use std::alloc::{AllocError, Global};
 use std::collections::BTreeMap;
-use update::answer::Refusal;
+use update::answer::{Done, Refusal};
 
 // A file's name: eleven bytes, whatever they are.
 pub type Name = [u8; 11];
@@ -16,15 +16,6 @@ pub struct Model {
     pub files: BTreeMap<Name, Vec<u8>>,
     // The blocks for files, free or not.
     blocks: usize,
-}
-
-// What has to come of a change.
-#[derive(Clone, Copy, Debug, PartialEq, Eq)]
-pub enum Verdict {
-    Refused(Refusal),
-    Full,
-    // Begun, with so many writes to make.
-    Begun(u64),
 }
 
 fn blocks_of(content: &[u8]) -> usize {
@@ -61,22 +52,21 @@ impl Model {
             .fold(self.blocks, usize::saturating_sub)
     }
 
-    pub fn verdict(&self, change: &Change) -> Verdict {
-        let Ok(name) = Name::try_from(change.name()) else {
-            return Verdict::Refused(Refusal::BadName);
-        };
+    // How many writes the change makes; or the answer, where it is not begun.
+    pub fn writes(&self, change: &Change) -> Result<u64, Done> {
+        let name = Name::try_from(change.name()).or(Err(Refusal::BadName))?;
         let there = self.files.contains_key(&name);
         match change {
-            Change::Away { .. } => Verdict::Begun(u64::from(there)),
+            Change::Away { .. } => Ok(u64::from(there)),
             Change::Put { content, .. } => {
                 if content.len() > LONGEST {
-                    return Verdict::Refused(Refusal::TooLong);
+                    return Err(Refusal::TooLong.into());
                 }
                 let needed = blocks_of(content.as_slice());
                 if needed > self.free() || !there && self.len() >= MOST {
-                    return Verdict::Full;
+                    return Err(Done::Full);
                 }
-                Verdict::Begun((needed as u64).saturating_add(1))
+                Ok((needed as u64).saturating_add(1))
             }
         }
     }

@@ -1,8 +1,8 @@
 // Changes tried on copies of a disk, with power for every number of their writes.
 use crate::change::Change;
-use crate::compare::{Difference, changed_blocks, compare, is_answer};
+use crate::compare::{Difference, changed_blocks, compare, expected};
 use crate::machine::Machine;
-use crate::model::{Model, Verdict};
+use crate::model::Model;
 use crate::random::Random;
 use fsck::judge::first_fault;
 use layout::disk::Disk;
