@@ -1,7 +1,6 @@
 // Whether a disk is sound, and the first entry at which it isn't.
-ghost use Rattle.std.specs.Prelude.{◌≡◌, ℕ, suc, ◌<◌, true, ◌||◌, ◌==◌, if◌then◌else◌, Some, None, Decides};
+ghost use Rattle.std.specs.Prelude.{◌≡◌, ℕ, suc, ◌<◌, true, ◌||◌, ◌==◌, if◌then◌else◌, Some, None, IsTrue, ◌↔◌};
 ghost use Rattle.std.specs.Option.{option_map};
-ghost use Rattle.layout.specs.Entries.{blocks_of};
 ghost use Rattle.layout.specs.Files.{has_entries, has_entry, held, find, entry_at, entries};
 ghost use Rattle.fsck.specs.Sets.{member};
 ghost use Rattle.fsck.specs.Blocks.{blocks_to, has, size};
@@ -43,14 +42,6 @@ fn take_blocks(blocks: &[u8], size: usize, taken: &mut BlockSet) -> bool
     true
 }
 
-// The same for the blocks of the entry's file.
-fn take_file(entry: &Entry, size: usize, taken: &mut BlockSet) -> bool
-    ensures value { result ≡ blocks_ok size (member taken.old) (blocks_of entry.now) }
-    ensures taken { result ≡ true → (k : ℕ) → member taken.new k ≡ (has (blocks_of entry.now) k || member taken.old k) }
-{
-    take_blocks(entry.file_blocks(), size, taken)
-}
-
 // Whether entry i is the first in use with its name.
 fn is_first(disk: Disk<'_>, entry: &Entry, i: usize) -> bool
     requires { has_entries (held disk) ≡ true }
@@ -80,7 +71,7 @@ fn judge_entry(disk: &[u8], i: usize, entry: &Entry, taken: &mut BlockSet) -> bo
     if !is_first(Disk::new(disk), entry, i) {
         return false;
     }
-    take_file(entry, disk.len() / Disk::BLOCK, taken)
+    take_blocks(entry.file_blocks(), disk.len() / Disk::BLOCK, taken)
 }
 
 // The entries, where the disk has the size of one.
@@ -99,7 +90,7 @@ pub fn first_fault(disk: &[u8]) -> Option<Fault>
     ensures value { result ≡ option_map fault_of_place (first_fault disk.now) }
     ensures places { option_map place result ≡ first_fault disk.now }
     ensures judged { Judged disk.now (option_map place result) }
-    ensures agrees { Decides (sound disk.now) (Sound disk.now) }
+    ensures agrees { IsTrue (sound disk.now) ↔ Sound disk.now }
     ensures twins { TwinsFound disk.now }
 {
     let Some(entries) = entries_of(disk) else {

@@ -65,9 +65,10 @@ returns c =
     sym (c.is_first.ensures lt ∙ (λ j. eqb (find (c.new.ensures j).now (same j).name.bytes) i)) ∙ c.if-not-is_first.false in
     let short : leb (entry_at d i).len 1024 ≡ true = le-leb _ 1024 (subst (λ (x : Entry). x.len ≤ 1024) same (subst (λ n. n ≤ 1024) c.from.ensures c.if-from-gt-LONGEST.false)) in
     let blocks : blocks_of c.args.entry.now ≡ blocks_of (entry_at d i) = ap blocks_of same in
+    let file = c.file_blocks.ensures ∙ blocks in
     let taken : member c.args.taken.now ≡ has (blocks_to d i) = λ j k. c.requires.taken k j in
     record {
-      value = c.take_file.ensures.value ∙ (λ j. blocks_ok (size d) (taken j) (blocks j))
+      value = c.take_blocks.ensures.value ∙ (λ j. blocks_ok (size d) (taken j) (file j))
           ∙ (λ j. sym short j && (sym first j && blocks_ok (size d) (has (blocks_to d i)) (blocks_of (entry_at d i)))) ∙ sym (entry_ok_used d i (flag_is d i c.if-disk-i-gt1.false) used);
-      taken = λ is k. c.take_file.ensures.taken is k ∙ (λ j. has (blocks j) k || taken j k) ∙ sym (has-blocks_to_used d i k used);
+      taken = λ is k. c.take_blocks.ensures.taken is k ∙ (λ j. has (file j) k || taken j k) ∙ sym (has-blocks_to_used d i k used);
     }

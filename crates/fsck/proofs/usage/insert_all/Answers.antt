@@ -11,5 +11,3 @@ loop-b-preserved c k =
     let i = c.loop-b.b-index in
     c.insert.ensures k ∙ ap (λ t. eqb k (get_or bs i 0) || t) (c.loop-b.invariant k) ∙ has-take_more bs i k (member c.args.set.now k) c.loop-b-test.true
 
-pub returns : goal.returns
-returns c k = c.loop-b.invariant k ∙ ap (λ l. has l k || member c.args.set.now k) (take_all c.loop-b.b-index c.args.blocks.now c.loop-b-test.false)
