@@ -1,6 +1,6 @@
 -- How many blocks a disk has in use, and how many are free. Assumes nothing.
 use Rattle.std.proofs.Common.{◌≡◌, ℕ, zero, suc, ◌+◌, ◌-◌, ◌<◌, ◌≤◌, Bool, true, false, cond, ◌&&◌, ◌||◌, eqb, List, [], ◌∷◌, ◌++◌, length, get_or, sym, refl, ap, ◌∙◌, subst, ⊎_elim, arith}
-use Rattle.std.proofs.lemmas.Bool.{cases_Bool, cond-true, cond-false, both_ways, eq-eqb, eqb-true, ne_eqb, or_cases, or_left, or_right, or_from, le-leb}
+use Rattle.std.proofs.lemmas.Bool.{false_from_ne_true, cases_Bool, cond-true, cond-false, both_ways, eq-eqb, eqb-true, ne_eqb, or_cases, or_left, or_right, or_from, le-leb}
 use Rattle.layout.specs.Entries.{blocks_of}
 use Rattle.layout.specs.Files.{has_entries, entry_at}
 use Rattle.fsck.specs.Sets.{counted}
@@ -11,10 +11,6 @@ use Rattle.fsck.specs.Usage.{Counts}
 use Rattle.fsck.proofs.WordBits.{counted_same, counted_split}
 use Rattle.fsck.proofs.Membership.{has-append, has_at, has_place, has_places, blocks_at_used, blocks_at_unused}
 use Rattle.fsck.proofs.Deciding.{sound_decides}
-
-false_unless : (b : Bool) → (b ≡ true → ⊥) → b ≡ false
-false_unless true not_so = absurd (not_so refl)
-false_unless false not_so = refl
 
 -- a test that fails on the whole range
 pub counted_none : (p : ℕ → Bool) (i n : ℕ) → ((k : ℕ) → i ≤ k → k < i + n → p k ≡ false) → counted p i n ≡ 0
@@ -58,7 +54,7 @@ once_rest x xs once k l a b e = let s : suc k ≡ suc l = once (suc k) (suc l) (
 
 pub once_new : (x : ℕ) (xs : List ℕ) → Once (x ∷ xs) → has xs x ≡ false
 once_new x xs once =
-    false_unless (has xs x)
+    false_from_ne_true (has xs x)
     (λ there.
     let p = has_place xs x there in
     let z : suc p.0 ≡ 0 = once (suc p.0) 0 (omega (arith, p.1)) (omega arith) p.2 in
@@ -68,7 +64,7 @@ once_new x xs once =
 pub once_append : (xs ys : List ℕ) → Once xs → Once ys → ((b : ℕ) → has xs b ≡ true → has ys b ≡ true → ⊥) → Once (xs ++ ys)
 once_append [] ys p q apart = q
 once_append (x ∷ xs) ys p q apart =
-    let not_there : has ys x ≡ false = false_unless (has ys x) (apart x (or_left _ _ (eq-eqb x x refl))) in
+    let not_there : has ys x ≡ false = false_from_ne_true (has ys x) (apart x (or_left _ _ (eq-eqb x x refl))) in
     once_cons x (xs ++ ys) (has-append xs ys x ∙ or_from _ _ (once_new x xs p) not_there) (once_append xs ys (once_rest x xs p) q (λ b a c. apart b (or_right _ _ a) c))
 
 -- a list without repetition has as many numbers as it is long
@@ -120,7 +116,7 @@ free_from_once d b (suc n) =
     ⊎_elim
     (λ used. subst Once (sym (cond-true _ _ _ used)) rest)
     (λ unused.
-    let new = false_unless (has (free_from d (suc b) n) b) (λ there. omega (arith, (free_from-has d (suc b) n b there).0)) in
+    let new = false_from_ne_true (has (free_from d (suc b) n) b) (λ there. omega (arith, (free_from-has d (suc b) n b there).0)) in
     subst Once (sym (cond-false _ _ _ unused)) (once_cons b (free_from d (suc b) n) new rest))
     (cases_Bool (in_use d b))
 
@@ -177,8 +173,8 @@ module _ (d : List ℕ) (is : sound d ≡ true) where
       let n = size d - 8 in
       let m = 256 - size d in
       let all : 256 ≡ 8 + (n + m) = omega (arith, rules.least, rules.most) in
-      let low : counted (in_use d) 0 8 ≡ 0 = counted_none (in_use d) 0 8 (λ k a b. false_unless (in_use d k) (λ used. omega (arith, (in_use_range k used).0))) in
-      let high : counted (in_use d) (8 + n) m ≡ 0 = counted_none (in_use d) (8 + n) m (λ k a b. false_unless (in_use d k) (λ used. omega (arith, (in_use_range k used).1))) in
+      let low : counted (in_use d) 0 8 ≡ 0 = counted_none (in_use d) 0 8 (λ k a b. false_from_ne_true (in_use d k) (λ used. omega (arith, (in_use_range k used).0))) in
+      let high : counted (in_use d) (8 + n) m ≡ 0 = counted_none (in_use d) (8 + n) m (λ k a b. false_from_ne_true (in_use d k) (λ used. omega (arith, (in_use_range k used).1))) in
       let split = ap (counted (in_use d) 0) all ∙ counted_split (in_use d) 0 8 (n + m) ∙ ap (λ c. counted (in_use d) 0 8 + c) (counted_split (in_use d) 8 n m) in
       omega (arith, split, length-free_from d 8 n, rules.least)
 
