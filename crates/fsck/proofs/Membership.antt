@@ -1,5 +1,6 @@
 -- Which blocks the first entries have, by entry and place. Assumes nothing.
 use Rattle.std.proofs.Common.{◌≡◌, ℕ, zero, suc, ◌<◌, Bool, true, false, ◌||◌, eqb, List, [], ◌∷◌, ◌++◌, length, get_or, sym, refl, ap, ◌∙◌, subst, ⊎_elim, arith}
+use Rattle.std.proofs.Math.Bool.{or-false, or_comm}
 use Rattle.std.proofs.lemmas.Bool.{cases_Bool, cases_eq, cond-true, cond-false, both_ways, eq-eqb, eqb-true, or_cases, or_left, or_right}
 use Rattle.layout.specs.Entries.{blocks_of}
 use Rattle.layout.specs.Files.{entry_at}
@@ -39,21 +40,11 @@ pub has-blocks_to_more : (d : List ℕ) (i b : ℕ) → has (blocks_to d (suc i)
 unfolding blocks_to
 has-blocks_to_more d i b = has-append (blocks_to d i) (blocks_at d i) b
 
-or_false : (a : Bool) → (a || false) ≡ a
-or_false true = refl
-or_false false = refl
-
-or_swap : (a b : Bool) → (a || b) ≡ (b || a)
-or_swap true true = refl
-or_swap true false = refl
-or_swap false true = refl
-or_swap false false = refl
-
 pub has-blocks_to_unused : (d : List ℕ) (i b : ℕ) → (entry_at d i).used ≡ false → has (blocks_to d (suc i)) b ≡ has (blocks_to d i) b
-has-blocks_to_unused d i b unused = has-blocks_to_more d i b ∙ ap (λ l. has (blocks_to d i) b || has l b) (blocks_at_unused d i unused) ∙ or_false (has (blocks_to d i) b)
+has-blocks_to_unused d i b unused = has-blocks_to_more d i b ∙ ap (λ l. has (blocks_to d i) b || has l b) (blocks_at_unused d i unused) ∙ or-false (has (blocks_to d i) b)
 
 pub has-blocks_to_used : (d : List ℕ) (i b : ℕ) → Used d i → has (blocks_to d (suc i)) b ≡ (has (blocks_of (entry_at d i)) b || has (blocks_to d i) b)
-has-blocks_to_used d i b used = has-blocks_to_more d i b ∙ ap (λ l. has (blocks_to d i) b || has l b) (blocks_at_used d i used) ∙ or_swap (has (blocks_to d i) b) _
+has-blocks_to_used d i b used = has-blocks_to_more d i b ∙ ap (λ l. has (blocks_to d i) b || has l b) (blocks_at_used d i used) ∙ or_comm (has (blocks_to d i) b) _
 
 -- a place that is in use has its block among them
 pub place_has : (d : List ℕ) (n i k : ℕ) → Place d n i k → has (blocks_to d n) (block_of d i k) ≡ true

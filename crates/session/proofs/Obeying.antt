@@ -19,10 +19,6 @@ use Rattle.session.specs.Prints.{Behind, ShowsIf}
 use Rattle.session.specs.Answered.{AnswersIf}
 use Rattle.session.specs.Obeyed.{lasting, uses_power, fault_of, made_writes, asked_of, new_disk, disk_after, power_after, writes_of}
 
-pub made_then : {T E : Type 0} (P Q : T → Type 0) (o : Result T E) → ((x : T) → P x → Q x) → IfOk o P → IfOk o Q
-made_then P Q (Ok x) f p = f x p
-made_then P Q (Err e) f p = tt
-
 -- a request on a disk that isn't sound writes nothing
 begun_unsound : (d : List ℕ) (a : r.Asked) → refusal d a ≡ 1 → begun d a ≡ false
 begun_unsound d a why = ap (λ n. eqb n 0 && roomy d a) why

@@ -1,11 +1,12 @@
 use Rattle.std.proofs.Common.{◌≡◌, ℕ, List, ◌++◌, vec_items, sym, refl, ap, ◌∙◌, subst}
+use Rattle.std.proofs.lemmas.Result.{IfOk-weaker}
 use Rattle.update.specs.Requests as r
 use Rattle.console.specs.Commands.{Said, disk, power, put, away, said, said_of, bad}
 use Rattle.session.specs.Obeyed.{lasting, asked_of, made_writes, disk_after, power_after, writes_of}
 use Rattle.session.specs.Answered.{Answers}
 use Rattle.session.proofs.Asking.{made_anyway}
 use Rattle.session.proofs.Keeping.{kept}
-use Rattle.session.proofs.Obeying.{made_then, idle_asked, idle_bad, disk_left, power_kept, log_kept, log_more, new_left, new_power, new_write, put_left, put_power, put_writes, away_left, away_power, away_writes}
+use Rattle.session.proofs.Obeying.{idle_asked, idle_bad, disk_left, power_kept, log_kept, log_more, new_left, new_power, new_write, put_left, put_power, put_writes, away_left, away_power, away_writes}
 use Rattle.session.proofs.Stopping.{stopped_at}
 use Rattle.session.proofs.session.Session.obey.Goals as goal
 
@@ -15,7 +16,7 @@ returns-in-Disk-clause-disk c =
     let p = c.args.self.now.power in
     let s = said c.args.command.now in
     let taken = c.take_power-lasts.ensures in
-    made_then _ _ c.make_disk.result (λ _ so. disk_left d p s (disk c.in-Disk.blocks c.in-Disk.line) (ap said c.in-Disk.is) _ (new_left d p c.in-Disk.blocks c.in-Disk.line _ _ (ap vec_items taken.disk) so)) c.make_disk.ensures.disk
+    IfOk-weaker c.make_disk.result _ _ (λ _ so. disk_left d p s (disk c.in-Disk.blocks c.in-Disk.line) (ap said c.in-Disk.is) _ (new_left d p c.in-Disk.blocks c.in-Disk.line _ _ (ap vec_items taken.disk) so)) c.make_disk.ensures.disk
 
 pub returns-in-Disk-clause-power : goal.returns-in-Disk-clause-power
 returns-in-Disk-clause-power c =
@@ -39,7 +40,7 @@ returns-in-Disk-clause-promise c =
     let p = c.args.self.now.power in
     let s = said c.args.command.now in
     let taken = c.take_power-lasts.ensures in
-    made_then _ _ c.make_disk.result (λ _ so. kept d p s _ (disk_left d p s (disk c.in-Disk.blocks c.in-Disk.line) (ap said c.in-Disk.is) _ (new_left d p c.in-Disk.blocks c.in-Disk.line _ _ (ap vec_items taken.disk) so))) c.make_disk.ensures.disk
+    IfOk-weaker c.make_disk.result _ _ (λ _ so. kept d p s _ (disk_left d p s (disk c.in-Disk.blocks c.in-Disk.line) (ap said c.in-Disk.is) _ (new_left d p c.in-Disk.blocks c.in-Disk.line _ _ (ap vec_items taken.disk) so))) c.make_disk.ensures.disk
 
 pub returns-in-Power-clause-disk : goal.returns-in-Power-clause-disk
 unfolding disk_after
@@ -84,7 +85,7 @@ returns-in-Put-clause-disk c =
     let s = said c.args.command.now in
     let taken = c.take_power-lasts.ensures in
     let request : r.put c.in-Put.name.bytes c.as_slice-content.result.now c.take_power-lasts.result ≡ r.put c.in-Put.name.bytes (vec_items c.in-Put.content) (lasting p) = (λ j. r.put c.in-Put.name.bytes (c.as_slice-content.ensures.value j) (taken.lasts j)) in
-    made_then _ _ c.ask.result (λ _ so. disk_left d p s (put c.in-Put.name (vec_items c.in-Put.content)) (ap said c.in-Put.is) _ (put_left d p c.in-Put.name (vec_items c.in-Put.content) _ (so ∙ (λ j. asked_of (vec_items (taken.disk j)) (request j))))) c.ask.ensures.disk
+    IfOk-weaker c.ask.result _ _ (λ _ so. disk_left d p s (put c.in-Put.name (vec_items c.in-Put.content)) (ap said c.in-Put.is) _ (put_left d p c.in-Put.name (vec_items c.in-Put.content) _ (so ∙ (λ j. asked_of (vec_items (taken.disk j)) (request j))))) c.ask.ensures.disk
 
 pub returns-in-Put-clause-power : goal.returns-in-Put-clause-power
 returns-in-Put-clause-power c =
@@ -102,7 +103,7 @@ returns-in-Put-clause-log c =
     let taken = c.take_power-lasts.ensures in
     let request : r.put c.in-Put.name.bytes c.as_slice-content.result.now c.take_power-lasts.result ≡ r.put c.in-Put.name.bytes (vec_items c.in-Put.content) (lasting p) = (λ j. r.put c.in-Put.name.bytes (c.as_slice-content.ensures.value j) (taken.lasts j)) in
     let log = vec_items c.args.log.now in
-    made_then _ _ c.ask.result (λ _ so. log_more d p s (put c.in-Put.name (vec_items c.in-Put.content)) (ap said c.in-Put.is) log _ (so ∙ (λ j. log ++ made_writes (vec_items (taken.disk j)) (request j)) ∙ ap (λ ws. log ++ ws) (put_writes d p c.in-Put.name (vec_items c.in-Put.content)))) c.ask.ensures.log
+    IfOk-weaker c.ask.result _ _ (λ _ so. log_more d p s (put c.in-Put.name (vec_items c.in-Put.content)) (ap said c.in-Put.is) log _ (so ∙ (λ j. log ++ made_writes (vec_items (taken.disk j)) (request j)) ∙ ap (λ ws. log ++ ws) (put_writes d p c.in-Put.name (vec_items c.in-Put.content)))) c.ask.ensures.log
 
 pub returns-in-Put-clause-stopped : goal.returns-in-Put-clause-stopped
 returns-in-Put-clause-stopped c =
@@ -111,7 +112,7 @@ returns-in-Put-clause-stopped c =
     let s = said c.args.command.now in
     let taken = c.take_power-lasts.ensures in
     let request : r.put c.in-Put.name.bytes c.as_slice-content.result.now c.take_power-lasts.result ≡ r.put c.in-Put.name.bytes (vec_items c.in-Put.content) (lasting p) = (λ j. r.put c.in-Put.name.bytes (c.as_slice-content.ensures.value j) (taken.lasts j)) in
-    made_then _ _ c.ask.result (λ _ so. stopped_at d p s _ (disk_left d p s (put c.in-Put.name (vec_items c.in-Put.content)) (ap said c.in-Put.is) _ (put_left d p c.in-Put.name (vec_items c.in-Put.content) _ (so ∙ (λ j. asked_of (vec_items (taken.disk j)) (request j)))))) c.ask.ensures.disk
+    IfOk-weaker c.ask.result _ _ (λ _ so. stopped_at d p s _ (disk_left d p s (put c.in-Put.name (vec_items c.in-Put.content)) (ap said c.in-Put.is) _ (put_left d p c.in-Put.name (vec_items c.in-Put.content) _ (so ∙ (λ j. asked_of (vec_items (taken.disk j)) (request j)))))) c.ask.ensures.disk
 
 pub returns-in-Put-clause-promise : goal.returns-in-Put-clause-promise
 returns-in-Put-clause-promise c =
@@ -120,7 +121,7 @@ returns-in-Put-clause-promise c =
     let s = said c.args.command.now in
     let taken = c.take_power-lasts.ensures in
     let request : r.put c.in-Put.name.bytes c.as_slice-content.result.now c.take_power-lasts.result ≡ r.put c.in-Put.name.bytes (vec_items c.in-Put.content) (lasting p) = (λ j. r.put c.in-Put.name.bytes (c.as_slice-content.ensures.value j) (taken.lasts j)) in
-    made_then _ _ c.ask.result (λ _ so. kept d p s _ (disk_left d p s (put c.in-Put.name (vec_items c.in-Put.content)) (ap said c.in-Put.is) _ (put_left d p c.in-Put.name (vec_items c.in-Put.content) _ (so ∙ (λ j. asked_of (vec_items (taken.disk j)) (request j)))))) c.ask.ensures.disk
+    IfOk-weaker c.ask.result _ _ (λ _ so. kept d p s _ (disk_left d p s (put c.in-Put.name (vec_items c.in-Put.content)) (ap said c.in-Put.is) _ (put_left d p c.in-Put.name (vec_items c.in-Put.content) _ (so ∙ (λ j. asked_of (vec_items (taken.disk j)) (request j)))))) c.ask.ensures.disk
 
 pub returns-in-Away-clause-disk : goal.returns-in-Away-clause-disk
 returns-in-Away-clause-disk c =
@@ -129,7 +130,7 @@ returns-in-Away-clause-disk c =
     let s = said c.args.command.now in
     let taken = c.take_power-lasts.ensures in
     let request : r.away c.in-Away.name.bytes c.take_power-lasts.result ≡ r.away c.in-Away.name.bytes (lasting p) = (λ j. r.away c.in-Away.name.bytes (taken.lasts j)) in
-    made_then _ _ c.ask-in-Away.result (λ _ so. disk_left d p s (away c.in-Away.name) (ap said c.in-Away.is) _ (away_left d p c.in-Away.name _ (so ∙ (λ j. asked_of (vec_items (taken.disk j)) (request j))))) c.ask-in-Away.ensures.disk
+    IfOk-weaker c.ask-in-Away.result _ _ (λ _ so. disk_left d p s (away c.in-Away.name) (ap said c.in-Away.is) _ (away_left d p c.in-Away.name _ (so ∙ (λ j. asked_of (vec_items (taken.disk j)) (request j))))) c.ask-in-Away.ensures.disk
 
 pub returns-in-Away-clause-power : goal.returns-in-Away-clause-power
 returns-in-Away-clause-power c =
@@ -147,7 +148,7 @@ returns-in-Away-clause-log c =
     let taken = c.take_power-lasts.ensures in
     let request : r.away c.in-Away.name.bytes c.take_power-lasts.result ≡ r.away c.in-Away.name.bytes (lasting p) = (λ j. r.away c.in-Away.name.bytes (taken.lasts j)) in
     let log = vec_items c.args.log.now in
-    made_then _ _ c.ask-in-Away.result (λ _ so. log_more d p s (away c.in-Away.name) (ap said c.in-Away.is) log _ (so ∙ (λ j. log ++ made_writes (vec_items (taken.disk j)) (request j)) ∙ ap (λ ws. log ++ ws) (away_writes d p c.in-Away.name))) c.ask-in-Away.ensures.log
+    IfOk-weaker c.ask-in-Away.result _ _ (λ _ so. log_more d p s (away c.in-Away.name) (ap said c.in-Away.is) log _ (so ∙ (λ j. log ++ made_writes (vec_items (taken.disk j)) (request j)) ∙ ap (λ ws. log ++ ws) (away_writes d p c.in-Away.name))) c.ask-in-Away.ensures.log
 
 pub returns-in-Away-clause-stopped : goal.returns-in-Away-clause-stopped
 returns-in-Away-clause-stopped c =
@@ -156,7 +157,7 @@ returns-in-Away-clause-stopped c =
     let s = said c.args.command.now in
     let taken = c.take_power-lasts.ensures in
     let request : r.away c.in-Away.name.bytes c.take_power-lasts.result ≡ r.away c.in-Away.name.bytes (lasting p) = (λ j. r.away c.in-Away.name.bytes (taken.lasts j)) in
-    made_then _ _ c.ask-in-Away.result (λ _ so. stopped_at d p s _ (disk_left d p s (away c.in-Away.name) (ap said c.in-Away.is) _ (away_left d p c.in-Away.name _ (so ∙ (λ j. asked_of (vec_items (taken.disk j)) (request j)))))) c.ask-in-Away.ensures.disk
+    IfOk-weaker c.ask-in-Away.result _ _ (λ _ so. stopped_at d p s _ (disk_left d p s (away c.in-Away.name) (ap said c.in-Away.is) _ (away_left d p c.in-Away.name _ (so ∙ (λ j. asked_of (vec_items (taken.disk j)) (request j)))))) c.ask-in-Away.ensures.disk
 
 pub returns-in-Away-clause-promise : goal.returns-in-Away-clause-promise
 returns-in-Away-clause-promise c =
@@ -165,7 +166,7 @@ returns-in-Away-clause-promise c =
     let s = said c.args.command.now in
     let taken = c.take_power-lasts.ensures in
     let request : r.away c.in-Away.name.bytes c.take_power-lasts.result ≡ r.away c.in-Away.name.bytes (lasting p) = (λ j. r.away c.in-Away.name.bytes (taken.lasts j)) in
-    made_then _ _ c.ask-in-Away.result (λ _ so. kept d p s _ (disk_left d p s (away c.in-Away.name) (ap said c.in-Away.is) _ (away_left d p c.in-Away.name _ (so ∙ (λ j. asked_of (vec_items (taken.disk j)) (request j)))))) c.ask-in-Away.ensures.disk
+    IfOk-weaker c.ask-in-Away.result _ _ (λ _ so. kept d p s _ (disk_left d p s (away c.in-Away.name) (ap said c.in-Away.is) _ (away_left d p c.in-Away.name _ (so ∙ (λ j. asked_of (vec_items (taken.disk j)) (request j)))))) c.ask-in-Away.ensures.disk
 
 pub returns-in-Ask-clause-disk : goal.returns-in-Ask-clause-disk
 returns-in-Ask-clause-disk c =
@@ -247,4 +248,4 @@ returns-in-Bad-clause-answer c =
     let taken = c.take_power-lasts.ensures in
     let same : c.as_slice-in-Bad.result.now ≡ d = c.as_slice-in-Bad.ensures.value ∙ ap vec_items taken.disk in
     let is : bad c.in-Bad.verb c.in-Bad.why c.in-Bad.place ≡ s = sym (ap said c.in-Bad.is) in
-    made_then _ _ c.refuse_line.result (λ done so. subst (λ (q : List ℕ × Said). Answers q.0 p q.1 done) (λ j. (same j, is j)) (so p)) c.refuse_line.ensures.answer
+    IfOk-weaker c.refuse_line.result _ _ (λ done so. subst (λ (q : List ℕ × Said). Answers q.0 p q.1 done) (λ j. (same j, is j)) (so p)) c.refuse_line.ensures.answer
