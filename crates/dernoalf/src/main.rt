@@ -5,6 +5,7 @@ mod failure;
 mod image;
 mod run;
 
+use console::verb::Verb;
 use failure::{Failure, USAGE};
 use run::Run;
 use std::env;
@@ -21,18 +22,20 @@ fn input(rt: &HostRuntime) -> Result<Vec<u8>, Failure> {
 // What the words ask of the image.
 fn over_image(rt: &HostRuntime, run: &mut Run, words: &[String]) -> Result<(), Failure> {
     let heap = rt.alloc();
-    match words {
-        [] => run.script(rt, input(rt)?.as_slice()),
-        [verb, name, file] if verb.as_str() == "put" => {
+    let Some((word, rest)) = words.split_first() else {
+        return run.script(rt, input(rt)?.as_slice());
+    };
+    match (Verb::of(word.as_bytes()), rest) {
+        (Some(Verb::Put), [name, file]) => {
             let line = format!(in heap; "put {name}")?;
             run.put(rt, line.as_str(), file.as_str())
         }
-        [verb, name, file] if verb.as_str() == "read" => {
+        (Some(Verb::Read), [name, file]) => {
             let line = format!(in heap; "read {name}")?;
             run.read(rt, line.as_str(), file.as_str())
         }
         // A put needs its file.
-        [verb, ..] if verb.as_str() == "put" => Err(Failure::Usage),
+        (Some(Verb::Put), _) => Err(Failure::Usage),
         _ => run.command(rt, words.join(heap, " ")?.as_str()),
     }
 }
