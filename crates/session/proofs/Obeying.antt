@@ -4,6 +4,7 @@ use Rattle.std.proofs.lemmas.Bool.{cond-false}
 use Rattle.layout.specs.declared.name.Name.{Name}
 use Rattle.fsck.specs.Sound.{sound, first_fault}
 use Rattle.update.specs.declared.answer.Done.{Done}
+use Rattle.update.specs.declared.answer.Done.TheVariants.{Refused}
 use Rattle.update.specs.declared.answer.Refusal.{Refusal}
 use Rattle.update.specs.declared.answer.Refusal.TheVariants.{Unsound}
 use Rattle.update.specs.declared.write.Write.{Write}

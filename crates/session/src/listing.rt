@@ -23,13 +23,13 @@ use update::answer::Done;
 const MAP_LINE: usize = 0x40;
 
 // The name of a file and its length.
+#[tactic(auto, using(console::proofs::Digits::shown_printed), unfolding(crate::specs::Printed::file_line))]
 fn push_file_line(out: &mut Vec<u8>, name: &Name, len: usize) -> Result<(), AllocError>
     ensures { OnOk result (out.new.items ≡ out.old.items ++ file_line name.now.bytes len) }
 {
     push_name(out, name)?;
-    out.extend_from_slice(b" ")?;
-    push_number(out, len as u64)?;
-    out.extend_from_slice(b"\n")
+    let len = format!(in *out.allocator(); " {len}\n")?;
+    out.extend_from_slice(len.as_bytes())
 }
 
 // The files, in the order of entries.

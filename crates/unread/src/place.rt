@@ -1,5 +1,5 @@
 // Whether a place is unread.
-ghost use Rattle.std.specs.Prelude.{◌≡◌, true, Some, IfErr, Decides};
+ghost use Rattle.std.specs.Prelude.{◌≡◌, true, Some, IfErr, IsTrue, ◌↔◌};
 ghost use Rattle.fsck.specs.Sound.{sound, first_fault};
 ghost use Rattle.fsck.specs.Faults as faults;
 ghost use Rattle.unread.specs.Unread.{unread};
@@ -16,7 +16,7 @@ use fsck::sound_disk::SoundDisk;
 pub fn is_unread(disk: &[u8], place: usize) -> Result<bool, Fault>
     ensures value { result ≡ answered disk.now (unread disk.now place) }
     ensures places { IfErr result (λ fault. first_fault disk.now ≡ Some (faults.place fault)) }
-    ensures kinds { sound disk.now ≡ true → Decides (unread disk.now place) (Unread disk.now place) }
+    ensures kinds { sound disk.now ≡ true → (IsTrue (unread disk.now place) ↔ Unread disk.now place) }
     ensures complete { Complete disk.now }
 {
     let disk = SoundDisk::check(disk)?;
