@@ -57,6 +57,7 @@ impl<'a> Script<'a> {
         ensures { IfOk result (λ b. BodyRead self.old.line self.old.text.now (items_or_line vec_items b) self.new.line self.new.text.now) }
     {
         let mut body = Ok(Vec::new(heap));
+        // No loop over lines that are taken, as below: here a line is looked at before it is.
         while !self.text.is_empty() {
             let (line, behind) = first_line(self.text);
             if !is_passed_over(line) {

@@ -1,5 +1,5 @@
 // Numbers, bytes and names as they are printed, put behind what is printed before.
-// (No `Display`: a formatter writes text, with more to prove for each piece than where a Vec grows.)
+// No `Display`: its contract would say nothing of the bytes. Each function says in its own clause what it puts behind the text, for a name for that would be as long.
 ghost use Rattle.std.specs.Prelude.{◌≡◌, ◌<◌, ◌≤◌, ◌++◌, length, Some, OnOk, nat_eq};
 ghost use Rattle.std.specs.List.{suffix_len};
 ghost use Rattle.console.specs.Bytes.{lines_bytes};
@@ -118,7 +118,7 @@ fn push_first(out: &mut Vec<u8>, b: u8) -> Result<(), AllocError>
     }
 }
 
-// How many spaces the name ends with.
+// How many spaces the name ends with: a chain of its own, as those of `words`.
 fn spaces_behind(name: &[u8]) -> usize
     ensures value { result ≡ suffix_len (nat_eq 32) name.now }
     ensures within { result ≤ length name.now }

@@ -20,7 +20,7 @@ pub struct SoundDisk<'a> {
 }
 
 impl<'a> SoundDisk<'a> {
-    // The disk, if it is sound; else its first fault.
+    // The disk, if it is sound; else its first fault. No `TryFrom`: the name says that all of it is judged.
     pub fn check(bytes: &'a [u8]) -> Result<SoundDisk<'a>, Fault>
         ensures answer { MatchResult result (λ disk. (sound bytes.now ≡ true) × (disk.bytes ≡ bytes.entry)) (λ fault. option_map fault_of_place (first_fault bytes.now) ≡ Some fault) }
         ensures faultless { IfOk result (λ _. first_fault bytes.now ≡ None) }

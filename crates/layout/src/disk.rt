@@ -117,7 +117,7 @@ impl<'a> Disk<'a> {
         &self.bytes[from..to]
     }
 
-    // Puts the bytes of the entry's file into the front of the room and answers how many they are; or refuses a room that is shorter than the entry's length, and leaves it as it was.
+    // Puts the bytes of the entry's file into the front of the room and answers how many they are; or refuses a room that is shorter than the entry's length, and leaves it as it was. The room is the caller's, since nothing here takes memory.
     pub fn copy_file(&self, file: &Entry, room: &mut [u8]) -> Result<usize, RoomTooShort>
         ensures { Copies file.now.len (content (held self.now) file.now) room.old result room.new }
     {

@@ -36,7 +36,7 @@ fn find_entry<'a>(disk: &'a [u8], name: &[u8]) -> Option<&'a [u8]>
     view.entry_bytes(i)
 }
 
-// The same; an empty part in place of none.
+// The same; an empty part in place of none, since a part of the disk is what is asked for.
 pub fn entry_of<'a>(disk: &'a [u8], name: &[u8]) -> &'a [u8]
     ensures { EntrySays disk.entry name.now result }
 {

@@ -2,7 +2,6 @@
 ghost use Rattle.std.specs.Prelude.{◌≡◌, ◌++◌, OnOk};
 ghost use Rattle.session.specs.Printed.{refused_line, answer_line};
 
-use console::show::push_number;
 use std::alloc::AllocError;
 use update::answer::{Done, Refusal};
 

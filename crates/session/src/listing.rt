@@ -6,10 +6,11 @@ ghost use Rattle.layout.specs.Files.{file};
 ghost use Rattle.fsck.specs.Blocks.{has};
 ghost use Rattle.unread.specs.Unread.{unread};
 ghost use Rattle.unread.specs.Runs.{Listed};
-ghost use Rattle.session.specs.Printed.{file_line, files_from, read_text, entry_text, shown_ranges, block_char, map_text};
+ghost use Rattle.console.specs.Shown.{shown_number};
+ghost use Rattle.session.specs.Printed.{pair_line, file_line, files_from, read_text, entry_text, shown_ranges, block_char, map_text};
 ghost use Rattle.session.specs.Answered.{read_answer, entry_answer};
 
-use console::show::{push_bytes, push_name, push_number};
+use console::show::{push_bytes, push_name};
 use fsck::sound_disk::SoundDisk;
 use layout::disk::Disk;
 use layout::entry::Entry;
@@ -83,15 +84,21 @@ pub(crate) fn push_entry(
     Ok(Done::Finished)
 }
 
+// A line of two numbers.
+#[tactic(auto, using(console::proofs::Digits::shown_printed))]
+fn push_pair(out: &mut Vec<u8>, first: usize, last: usize) -> Result<(), AllocError>
+    ensures { OnOk result (out.new.items ≡ out.old.items ++ pair_line (shown_number first) (shown_number last)) }
+{
+    let line = format!(in *out.allocator(); "{first} {last}\n")?;
+    out.extend_from_slice(line.as_bytes())
+}
+
 // A line with the first and the last place of each run of unread places.
 pub(crate) fn push_unread(out: &mut Vec<u8>, disk: SoundDisk<'_>) -> Result<(), AllocError>
     ensures { OnOk result ((rs : List (Range _)) × Listed (unread disk.entry.bytes.now) 0 rs × (out.new.items ≡ out.old.items ++ shown_ranges rs)) }
 {
     for run in Runs::of(disk) {
-        push_number(out, run.start as u64)?;
-        out.extend_from_slice(b" ")?;
-        push_number(out, run.end.saturating_sub(1) as u64)?;
-        out.extend_from_slice(b"\n")?;
+        push_pair(out, run.start, run.end.saturating_sub(1))?;
     }
     Ok(())
 }

@@ -61,7 +61,7 @@ fn log_writes(disk: &[u8], request: Request<'_>, log: &mut Vec<Write>) -> Result
     log.extend(plan.writes().take(request.lasts() as usize))
 }
 
-// Prints the refusal, and answers it.
+// Prints the refusal, and answers it. Why and where are apart, as in `Command::Bad` and in the definitions.
 fn refuse(out: &mut Vec<u8>, why: Refusal, place: usize) -> Result<Done, AllocError>
     ensures text { OnOk result (out.new.items ≡ out.old.items ++ refused_line why place) }
     ensures answer { IfOk result (λ done. done ≡ Refused why) }

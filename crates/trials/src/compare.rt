@@ -131,7 +131,9 @@ fn is_listed(entry: &Entry, model: &Model) -> bool {
 // The names and lengths of all files.
 fn compare_listing(disk: &[u8], model: &Model) -> Result<(), Difference> {
     let entries = Disk::new(disk).entries().ok_or(Difference::Listing)?;
-    let listed = entries.iter().all(|entry| !entry.used || is_listed(entry, model));
+    let listed = entries
+        .iter()
+        .all(|entry| !entry.used || is_listed(entry, model));
     let used = entries.iter().filter(|entry| entry.used).count();
     if !listed || used != model.len() || Machine::new(disk).files() != used {
         return Err(Difference::Listing);

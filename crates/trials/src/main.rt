@@ -1,4 +1,4 @@
-// Random requests with power failing at each of their writes, beside a map of files that knows nothing of blocks.
+// Begun: random requests with power failing at each of their writes, beside a map of files that knows nothing of blocks.
 #![tactic(auto)]
 
 mod change;
@@ -8,6 +8,4 @@ mod model;
 mod random;
 mod trial;
 
-fn main(rt: HostRuntime) -> Result<(), ()> {
-    Ok(())
-}
+fn main() {}

@@ -69,7 +69,7 @@ fn unread_rest(disk: SoundDisk<'_>, place: usize) -> Range<usize>
     from + read_of_block(disk, b as u8)..from + Disk::BLOCK
 }
 
-// Places of one entry or one block that are all unread, or all read: those from some place on, up to `end`.
+// Places of one entry or one block that are all unread, or all read: those from some place on, up to `end`. A flag, and no `Option`: both kinds have an end.
 #[derive(Clone, Copy, Debug, PartialEq, Eq)]
 pub(crate) struct Extent {
     pub(crate) unread: bool,

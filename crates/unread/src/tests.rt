@@ -9,7 +9,7 @@ use std::alloc::{AllocError, Global};
 use std::array;
 use std::test::Fail;
 
-// The first place of each range, and the first behind it.
+// The first place of each range, and the first behind it: pairs, to be read as a table.
 const RANGES: [(usize, usize); 19] = [
     // The file of no bytes: all behind its length.
     (14, 32),

@@ -12,7 +12,7 @@ use layout::name::WrongLength;
 #[derive(Debug, Clone, Copy, PartialEq, Eq)]
 pub enum Refusal {
     // The disk isn't sound.
-    Unsound,
+    Unsound = 1,
     // The name isn't eleven bytes.
     BadName,
     // The file has more than 1,024 bytes.
@@ -26,12 +26,7 @@ impl Refusal {
     pub fn number(self) -> usize
         ensures { result ≡ number self }
     {
-        match self {
-            Refusal::Unsound => 1,
-            Refusal::BadName => 2,
-            Refusal::TooLong => 3,
-            Refusal::Unreadable => 4,
-        }
+        self as usize
     }
 }
 

@@ -12,7 +12,7 @@ use crate::answer::Done;
 use crate::plan::Plan;
 use crate::write::write_powered;
 
-// What is asked of a disk. Each request says for itself for how many writes power lasts: it is part of what the promise is said of.
+// What is asked of a disk. Each request has a name and says for itself for how many writes power lasts: the promise is said of requests that have all of it in them.
 #[derive(Debug, Clone, Copy, PartialEq, Eq)]
 pub enum Request<'a> {
     // The bytes are to be put under this name, with power for so many writes.

@@ -7,10 +7,10 @@ use crate::plan::Plan;
 use crate::write::Write;
 
 // The writes of a plan that are left, in their order.
-#[derive(Clone, Copy)]
+#[derive(Drop)]
 pub struct Writes<'a> {
     plan: &'a Plan<'a>,
-    // How many were given.
+    // How many were given. It counts by itself, since the writes are made one by one, when they are asked for.
     given: usize,
 }
 

@@ -2,8 +2,8 @@ use Rattle.std.proofs.Common.{◌-◌, ◌++◌, vec_items, sym, ap, ◌∙◌, 
 use Rattle.unread.specs.Unread.{unread}
 use Rattle.unread.specs.Runs.{NextRun}
 use Rattle.console.specs.Shown.{shown_number}
+use Rattle.session.specs.Printed.{pair_line}
 use Rattle.session.proofs.Ranges.{ListedTo, listed_none, listed_more, listed_all}
-use Rattle.session.proofs.Texts.{pair_behind}
 use Rattle.session.proofs.listing.push_unread.Goals as goal
 
 pub loop-run-init : goal.loop-run-init
@@ -22,14 +22,13 @@ loop-run-preserved c =
     let p = unread c.args.disk.bytes.now in
     let was = vec_items c.args.out.now in
     let out = vec_items c.loop-run.out in
-    let now = vec_items c.extend_from_slice-in-loop-run.new.self in
+    let now = vec_items c.push_pair.new.out in
     let at = c.loop-run.run-iterator.at in
     let inv = c.loop-run.invariant in
     let r = c.in-Some.run' in
     let step = c.in-Some.ensures.steps in
     let next = subst (λ d. NextRun (unread d) at r) inv.2 step.1.0 in
-    let last = c.in_ok-push_number-2.ensures.text ∙ ap (λ n. vec_items c.extend_from_slice.new.self ++ shown_number n) c.saturating_sub.ensures in
-    let text = c.in_ok-extend_from_slice-2.ensures.items ∙ pair_behind out (shown_number r.start) (shown_number (r.end - 1)) c.in_ok-push_number.ensures.text c.in_ok-extend_from_slice.ensures.items last in
+    let text = c.in_ok-push_pair.ensures ∙ ap (λ n. out ++ pair_line (shown_number r.start) (shown_number n)) c.saturating_sub.ensures in
     (tt, tt, (λ j. (step.0 j).now) ∙ inv.2, subst (ListedTo p was now) (sym step.1.1) (listed_more p was out at inv.3 r now next text))
 
 pub returns : goal.returns
