@@ -98,6 +98,7 @@ impl<'a> Script<'a> {
                     place: number,
                 }));
             };
+            // Only a put has a body, and only for a put is it looked at.
             let body = match verb {
                 Verb::Put => self.parse_body(heap)?,
                 _ => Ok(Vec::new(heap)),

@@ -124,12 +124,7 @@ module _ (d : List ℕ) where
     (sound_decides d 16 (omega arith)).0 is,
   )
 
--- what is answered tells whether the disk is sound
-pub sound_from_none : (d : List ℕ) (o : Option ℕ) → Judged d o → is_some o ≡ false → sound d ≡ true
-unfolding sound
-sound_from_none d None s is = (sound_decides d 16 (omega arith)).1 s
-sound_from_none d (Some p) j is = absurd (both_ways true is refl)
-
+-- a disk with a fault isn't sound
 pub unsound_from_some : (d : List ℕ) (o : Option ℕ) → o ≡ first_fault d → is_some o ≡ true → sound d ≡ false
 unfolding sound
 unsound_from_some d o is some =

@@ -1,7 +1,5 @@
 use Rattle.std.proofs.Common.{◌||◌, eqb, get_or, ap, ◌∙◌}
-use Rattle.std.proofs.lemmas.List.{take_all}
 use Rattle.fsck.specs.Sets.{member}
-use Rattle.fsck.specs.Blocks.{has}
 use Rattle.fsck.proofs.Judging.{has-take_more}
 use Rattle.fsck.proofs.usage.insert_all.Goals as goal
 
@@ -10,4 +8,3 @@ loop-b-preserved c k =
     let bs = c.args.blocks.now in
     let i = c.loop-b.b-index in
     c.insert.ensures k ∙ ap (λ t. eqb k (get_or bs i 0) || t) (c.loop-b.invariant k) ∙ has-take_more bs i k (member c.args.set.now k) c.loop-b-test.true
-

@@ -1,5 +1,5 @@
-use Rattle.std.proofs.Common.{◌∷◌, ◌++◌, [], vec_items, ap, ◌∙◌, append_assoc, rules}
-use Rattle.console.specs.Shown.{shown_number, shown_name}
+use Rattle.std.proofs.Common.{◌∷◌, ◌++◌, [], vec_items, ap, ◌∙◌, rules}
+use Rattle.console.specs.Shown.{shown_name}
 use Rattle.console.proofs.Digits.{shown_printed}
 use Rattle.session.specs.Printed.{file_line}
 use Rattle.session.proofs.Texts.{behind, made_behind}

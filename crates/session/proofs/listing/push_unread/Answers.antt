@@ -1,4 +1,4 @@
-use Rattle.std.proofs.Common.{◌-◌, ◌++◌, vec_items, sym, ap, ◌∙◌, subst}
+use Rattle.std.proofs.Common.{◌++◌, vec_items, sym, ap, ◌∙◌, subst}
 use Rattle.unread.specs.Unread.{unread}
 use Rattle.unread.specs.Runs.{NextRun}
 use Rattle.console.specs.Shown.{shown_number}
