@@ -7,7 +7,7 @@ use crate::escape::parse_byte;
 use crate::words::is_blank;
 use std::alloc::{AllocError, Global};
 
-// The bytes that the line writes, or none where it is no line of bytes.
+// The bytes that the line writes, or none where it is no line of bytes: an Option in a Result, since want of memory is another end.
 #[tactic(auto, unfolding(crate::specs::Bytes::line_bytes))]
 pub fn parse_bytes(heap: Global, line: &[u8]) -> Result<Option<Vec<u8>>, AllocError>
     ensures { IfOk result (λ o. option_map vec_items o ≡ line_bytes line.now) }

@@ -42,7 +42,7 @@ fn read_byte(text: &[u8]) -> Option<(u8, &[u8])>
     }
 }
 
-// The bytes that the text spells, or none where an escape in it can't be read.
+// The bytes that the text spells, or none where an escape in it can't be read: an Option in a Result, since want of memory is another end.
 #[tactic(auto, unfolding(crate::specs::Names::spelled))]
 pub fn unescape(heap: Global, text: &[u8]) -> Result<Option<Vec<u8>>, AllocError>
     ensures { IfOk result (λ o. option_map vec_items o ≡ spelled Plain text.now) }

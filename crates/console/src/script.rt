@@ -52,7 +52,7 @@ impl<'a> Script<'a> {
         Script { text, line: 0 }
     }
 
-    // The bytes up to the next line that begins with a command's word; or the first line that is no line of bytes.
+    // The bytes up to the next line that begins with a command's word; or the first line that is no line of bytes. A result in a result: the body is read to its end before anything is made of it, so the inner one is a value.
     fn parse_body(&mut self, heap: Global) -> Result<Result<Vec<u8>, Unreadable>, AllocError>
         ensures { IfOk result (λ b. BodyRead self.old.line self.old.text.now (items_or_line vec_items b) self.new.line self.new.text.now) }
     {

@@ -50,7 +50,7 @@ fn is_first(disk: Disk<'_>, entry: &Entry, i: usize) -> bool
     disk.find(&entry.name) == Some(i)
 }
 
-// Whether entry i of the disk has no fault against those before it, whose blocks are taken. If it has none, its own blocks are taken too.
+// Whether entry i of the disk has no fault against those before it, whose blocks are taken. If it has none, its own blocks are taken too. A `bool`, as of `take_blocks`.
 fn judge_entry(disk: &[u8], i: usize, entry: &Entry, taken: &mut BlockSet) -> bool
     requires there { has_entry disk.now i ≡ true }
     requires entry { entry.now ≡ entry_at disk.now i }

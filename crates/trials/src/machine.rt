@@ -49,7 +49,7 @@ impl<'a> Entry<'a> {
     }
 }
 
-// Marks the blocks as taken; false where one of them is not for files, not on the disk, or taken before.
+// Marks the blocks as taken; false where one of them is not for files, not on the disk, or taken before. A `bool`, as below: a judgement is a yes or a no.
 fn take_blocks(blocks: &[u8], size: usize, taken: &mut [bool; 256]) -> bool {
     for b in blocks {
         let b = usize::from(*b);
