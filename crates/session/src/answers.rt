@@ -2,16 +2,19 @@
 ghost use Rattle.std.specs.Prelude.{◌≡◌, ◌++◌, OnOk};
 ghost use Rattle.session.specs.Printed.{refused_line, answer_line};
 
+use console::show::push_number;
 use std::alloc::AllocError;
 use update::answer::{Done, Refusal};
 
-// The number of the refusal, and the place.
-#[tactic(auto, using(console::proofs::Digits::shown_printed), unfolding(crate::specs::Printed::refused_line))]
+// The number of the refusal, and the place. Piece by piece, as the lines of a listing, since a format would take memory for each line.
 pub fn push_refused(out: &mut Vec<u8>, refusal: Refusal, place: usize) -> Result<(), AllocError>
     ensures { OnOk result (out.new.items ≡ out.old.items ++ refused_line refusal place) }
 {
-    let line = format!(in *out.allocator(); "refused {} at {place}\n", refusal.number())?;
-    out.extend_from_slice(line.as_bytes())
+    out.extend_from_slice(b"refused ")?;
+    push_number(out, refusal.number() as u64)?;
+    out.extend_from_slice(b" at ")?;
+    push_number(out, place as u64)?;
+    out.extend_from_slice(b"\n")
 }
 
 // The word for what came of a request; a refusal, with its place.

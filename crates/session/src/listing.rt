@@ -1,8 +1,8 @@
 // Files, entries, unread places and blocks of a sound disk, as they are printed.
-ghost use Rattle.std.specs.Prelude.{◌≡◌, List, ◌++◌, ◌&&◌, position, OnOk, IfOk};
+ghost use Rattle.std.specs.Prelude.{◌≡◌, ℕ, List, ◌++◌, ◌&&◌, position, OnOk, IfOk};
 ghost use Rattle.std.specs.declared.ops.Range.{Range};
 ghost use Rattle.layout.specs.Entries.{blocks_of};
-ghost use Rattle.layout.specs.Files.{file};
+ghost use Rattle.layout.specs.Files.{entries, file};
 ghost use Rattle.fsck.specs.Blocks.{has};
 ghost use Rattle.unread.specs.Unread.{unread};
 ghost use Rattle.unread.specs.Runs.{Listed};
@@ -10,7 +10,7 @@ ghost use Rattle.console.specs.Shown.{shown_number};
 ghost use Rattle.session.specs.Printed.{pair_line, file_line, files_from, read_text, entry_text, shown_ranges, block_char, map_text};
 ghost use Rattle.session.specs.Answered.{read_answer, entry_answer};
 
-use console::show::{push_bytes, push_name};
+use console::show::{push_bytes, push_name, push_number};
 use fsck::sound_disk::SoundDisk;
 use layout::disk::Disk;
 use layout::entry::Entry;
@@ -24,20 +24,21 @@ use update::answer::Done;
 const MAP_LINE: usize = 0x40;
 
 // The name of a file and its length.
-#[tactic(auto, using(console::proofs::Digits::shown_printed), unfolding(crate::specs::Printed::file_line))]
 fn push_file_line(out: &mut Vec<u8>, name: &Name, len: usize) -> Result<(), AllocError>
     ensures { OnOk result (out.new.items ≡ out.old.items ++ file_line name.now.bytes len) }
 {
     push_name(out, name)?;
-    let len = format!(in *out.allocator(); " {len}\n")?;
-    out.extend_from_slice(len.as_bytes())
+    out.extend_from_slice(b" ")?;
+    push_number(out, len as u64)?;
+    out.extend_from_slice(b"\n")
 }
 
 // The files, in the order of entries.
 pub(crate) fn push_files(out: &mut Vec<u8>, disk: SoundDisk<'_>) -> Result<(), AllocError>
     ensures { OnOk result (out.new.items ≡ out.old.items ++ files_from disk.entry.bytes.now 0 16) }
 {
-    for entry in &disk.entries() {
+    for part in disk.table() {
+        let entry = Entry::decode(part);
         if entry.used {
             push_file_line(out, &entry.name, usize::from(entry.len))?;
         }
@@ -85,12 +86,13 @@ pub(crate) fn push_entry(
 }
 
 // A line of two numbers.
-#[tactic(auto, using(console::proofs::Digits::shown_printed))]
 fn push_pair(out: &mut Vec<u8>, first: usize, last: usize) -> Result<(), AllocError>
     ensures { OnOk result (out.new.items ≡ out.old.items ++ pair_line (shown_number first) (shown_number last)) }
 {
-    let line = format!(in *out.allocator(); "{first} {last}\n")?;
-    out.extend_from_slice(line.as_bytes())
+    push_number(out, first as u64)?;
+    out.extend_from_slice(b" ")?;
+    push_number(out, last as u64)?;
+    out.extend_from_slice(b"\n")
 }
 
 // A line with the first and the last place of each run of unread places.
@@ -112,14 +114,14 @@ fn owner(entries: &[Entry], block: u8) -> Option<usize>
         .position(|entry| entry.used && entry.file_blocks().contains(&block))
 }
 
-// The character of a block: `#` for the first eight, which hold the entries, a letter for one of a file, a dot for a free one.
-fn block_char(disk: SoundDisk<'_>, block: u8) -> u8
-    ensures { result ≡ block_char disk.entry.bytes.now block }
+// The character of a block of the disk that has these entries: `#` for the first eight, which hold the entries, a letter for one of a file, a dot for a free one.
+fn block_char(all: &[Entry; Disk::ENTRIES], block: u8) -> u8
+    ensures { (d : List ℕ) → all.now ≡ entries d → result ≡ block_char d block }
 {
     if usize::from(block) < Disk::ENTRY_BLOCKS {
         return b'#';
     }
-    match owner(&disk.entries(), block) {
+    match owner(all, block) {
         Some(i) => b'a' + i as u8,
         None => b'.',
     }
@@ -129,9 +131,10 @@ fn block_char(disk: SoundDisk<'_>, block: u8) -> u8
 pub(crate) fn push_map(out: &mut Vec<u8>, disk: SoundDisk<'_>) -> Result<(), AllocError>
     ensures { OnOk result (out.new.items ≡ out.old.items ++ map_text disk.entry.bytes.now) }
 {
+    let entries = disk.entries();
     let blocks = disk.blocks();
     for block in 0..blocks {
-        out.push(block_char(disk, block as u8))?;
+        out.push(block_char(&entries, block as u8))?;
         if block % MAP_LINE == MAP_LINE - 1 || block + 1 == blocks {
             out.push(b'\n')?;
         }

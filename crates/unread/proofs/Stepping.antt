@@ -15,7 +15,7 @@ module _ (d : List ℕ) (at start end : ℕ) (first : Until (unread d) false at 
   on_disk = ⊎_elim (λ lt. lt) (λ ge. absurd (there (omega (arith, first.within)))) (cases_lt start (length d))
 
   -- the run has a place, since its first is unread
-  run_holds : start < end
+  pub run_holds : start < end
   run_holds =
       ⊎_elim
       (λ lt. lt)

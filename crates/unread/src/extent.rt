@@ -44,55 +44,28 @@ fn read_by_file(b: u8, entry: &Entry) -> usize
 fn read_of_block(disk: SoundDisk<'_>, b: u8) -> usize
     ensures { result ≡ read_of_block disk.entry.bytes.now b 16 }
 {
-    disk.entries()
+    disk.table()
         .iter()
+        .map(|part| Entry::decode(part))
         .filter(|entry| entry.used)
-        .map(|entry| read_by_file(b, entry))
+        .map(|entry| read_by_file(b, &entry))
         .max()
         .unwrap_or(0)
 }
 
 // Of the entry or the block that has the place, the bytes that aren't read: the last of it, or none.
-fn unread_rest(disk: SoundDisk<'_>, place: usize) -> Range<usize>
+pub(crate) fn unread_rest(disk: SoundDisk<'_>, place: usize) -> Range<usize>
     requires { place < length disk.bytes.now }
     ensures behind { (place < result.end) × (result.start ≤ result.end) × (result.end ≤ length disk.entry.bytes.now) }
     ensures unread { (k : ℕ) → place ≤ k → k < result.end → unread disk.entry.bytes.now k ≡ nat_le result.start k }
 {
     let i = place / Disk::ENTRY;
     if i < Disk::ENTRIES {
-        let entries = disk.entries();
+        let entry = Entry::decode(&disk.table()[i]);
         let from = i * Disk::ENTRY;
-        return from + read_of_entry(&entries[i])..from + Disk::ENTRY;
+        return from + read_of_entry(&entry)..from + Disk::ENTRY;
     }
     let b = place / Disk::BLOCK;
     let from = b * Disk::BLOCK;
     from + read_of_block(disk, b as u8)..from + Disk::BLOCK
-}
-
-// Places of one entry or one block that are all unread, or all read: those from some place on, up to `end`. A flag, and no `Option`: both kinds have an end.
-#[derive(Clone, Copy, Debug, PartialEq, Eq)]
-pub(crate) struct Extent {
-    pub(crate) unread: bool,
-    pub(crate) end: usize,
-}
-
-impl Extent {
-    // Those from this place on.
-    pub(crate) fn at(disk: SoundDisk<'_>, place: usize) -> Extent
-        requires { place < length disk.bytes.now }
-        ensures behind { (place < result.end) × (result.end ≤ length disk.entry.bytes.now) }
-        ensures alike { (k : ℕ) → place ≤ k → k < result.end → unread disk.entry.bytes.now k ≡ result.unread }
-    {
-        let rest = unread_rest(disk, place);
-        if place < rest.start {
-            return Extent {
-                unread: false,
-                end: rest.start,
-            };
-        }
-        Extent {
-            unread: true,
-            end: rest.end,
-        }
-    }
 }

@@ -7,7 +7,7 @@ ghost use Rattle.unread.specs.Kinds.{Unread};
 ghost use Rattle.unread.specs.Complete.{Complete};
 ghost use Rattle.unread.specs.Answers.{answered};
 
-use crate::extent::Extent;
+use crate::extent::unread_rest;
 use fsck::fault::Fault;
 use fsck::sound_disk::SoundDisk;
 
@@ -23,5 +23,6 @@ pub fn is_unread(disk: &[u8], place: usize) -> Result<bool, Fault>
     if place >= disk.bytes().len() {
         return Ok(false);
     }
-    Ok(Extent::at(disk, place).unread)
+    let rest = unread_rest(disk, place);
+    Ok(rest.start <= place)
 }

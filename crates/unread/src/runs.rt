@@ -9,7 +9,7 @@ ghost use Rattle.unread.specs.Runs.{Ready, Until, Step, JustThese};
 ghost use Rattle.unread.specs.Complete.{Complete};
 ghost use Rattle.std.specs.Iterator.{at_most};
 
-use crate::extent::Extent;
+use crate::extent::unread_rest;
 use fsck::fault::Fault;
 use fsck::sound_disk::SoundDisk;
 use std::ops::Range;
@@ -54,13 +54,18 @@ fn next_place(disk: SoundDisk<'_>, at: usize, is_unread: bool) -> usize
     ensures { Until (unread disk.entry.bytes.now) (not is_unread) at result (length disk.entry.bytes.now) }
 {
     let mut at = at;
-    // No range and no chain: each step is as long as the extent that was found.
+    // No range and no chain: each step goes to the end of the entry or the block that has the place.
     while at < disk.bytes().len() {
-        let extent = Extent::at(disk, at);
-        if extent.unread == is_unread {
-            return at;
+        let rest = unread_rest(disk, at);
+        let (from, to) = if is_unread {
+            (at.max(rest.start), rest.end)
+        } else {
+            (at, rest.start)
+        };
+        if from < to {
+            return from;
         }
-        at = extent.end;
+        at = rest.end;
     }
     at
 }

@@ -38,7 +38,7 @@ plan_refused d a q why = (
   subst (λ n. Says n d a (roomy d a) (Refused q) d) (sym why) (refused_says q d a (roomy d a)),
 )
 
-plan_full : (d : List ℕ) (a : Asked) → refusal d a ≡ 0 → roomy d a ≡ false → PlanSays d a (Err Full)
+pub plan_full : (d : List ℕ) (a : Asked) → refusal d a ≡ 0 → roomy d a ≡ false → PlanSays d a (Err Full)
 plan_full d a fine full =
     let left : Says 0 d a false Full d = (refl, refl) in
     (and_right (eqb (refusal d a) 0) _ full, subst (λ n. Says n d a (roomy d a) Full d) (sym fine) (subst (λ r. Says 0 d a r Full d) (sym full) left))

@@ -9,6 +9,7 @@ use crate::block_list::BlockList;
 use fsck::sound_disk::SoundDisk;
 use fsck::usage::blocks_in_use;
 use layout::disk::Disk;
+use layout::entry::Entry;
 use layout::name::Name;
 
 // The lowest free blocks, as many as are needed; none where fewer are free.
@@ -33,7 +34,10 @@ pub(crate) fn choose_blocks(disk: SoundDisk<'_>, needed: usize) -> Option<BlockL
 fn first_unused(disk: SoundDisk<'_>) -> Option<usize>
     ensures { result ≡ position (λ e. not e.used) (entries disk.entry.bytes.now) }
 {
-    disk.entries().iter().position(|entry| !entry.used)
+    disk.table()
+        .iter()
+        .map(|part| Entry::decode(part))
+        .position(|entry| !entry.used)
 }
 
 // The place of the entry for a file of this name: the one that has it, or else the first that is not in use; none where all are.

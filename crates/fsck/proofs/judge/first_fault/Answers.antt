@@ -1,12 +1,9 @@
-use Rattle.std.proofs.Common.{◌≡◌, suc, ◌+◌, ◌<◌, true, get_or, Some, sym, ap, ◌∙◌, subst, add-one, arith}
+use Rattle.std.proofs.Common.{◌≡◌, suc, ◌+◌, ◌<◌, true, Some, sym, ap, ◌∙◌, subst, add-one, arith}
 use Rattle.std.specs.Option.{option_map}
 use Rattle.std.proofs.lemmas.Bool.{cond-true, lt-ltb}
-use Rattle.layout.specs.declared.entry.Entry.{Entry}
-use Rattle.layout.specs.Files.{entries}
-use Rattle.layout.proofs.Finding.{some_from_cond, none_from_cond}
-use Rattle.layout.proofs.Searching.{get_or-entries}
+use Rattle.layout.proofs.Searching.{decoded-table}
 use Rattle.fsck.specs.Blocks.{blocks_to, has}
-use Rattle.fsck.specs.Sound.{size_ok, sound, sound_to}
+use Rattle.fsck.specs.Sound.{sound, sound_to}
 use Rattle.fsck.specs.Faults.{fault_of_place}
 use Rattle.fsck.proofs.Contents.{sound_entry}
 use Rattle.fsck.proofs.Deciding.{sound_decides}
@@ -17,25 +14,23 @@ pub returns-in_default : goal.returns-in_default
 unfolding sound
 returns-in_default c =
     let d = c.args.disk.now in
-    let r = fault_size d (none_from_cond (size_ok d) (entries d) c.in_default.ensures) in
+    let r = fault_size d c.in_default.ensures in
     record { value = ap (option_map fault_of_place) r.0; places = r.0; judged = r.1; agrees = sound_decides d 16 (omega arith); twins = twins_found d }
 
 pub loop-i-init : goal.loop-i-init
 unfolding blocks_to
 loop-i-init c =
     let d = c.args.disk.now in
-    (sound_to_none d (some_from_cond (size_ok d) c.in-Some.entries (entries d) c.in-Some.ensures).0, c.new-taken.ensures)
+    (sound_to_none d c.in-Some.ensures.0, c.new-taken.ensures)
 
 pub judge_entry-requires : goal.judge_entry-requires
 judge_entry-requires c =
     let d = c.args.disk.now in
     let i = c.loop-i.i in
-    let known = some_from_cond (size_ok d) c.in-Some.entries (entries d) c.in-Some.ensures in
     let lt : i < 16 = c.loop-i-test.true in
-    let same = λ (e : Entry). ap (λ es. get_or es i e) known.1 ∙ get_or-entries d i e lt in
     record {
       there = sound_entry d i i ((sound_decides d i (omega arith)).0 c.loop-i.invariant.0) lt;
-      entry = same _;
+      entry = c.decode.ensures.fields ∙ decoded-table d c.in-Some.table.now i _ c.in-Some.ensures.1 lt;
       taken = c.loop-i.invariant.1;
     }
 

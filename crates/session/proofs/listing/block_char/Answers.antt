@@ -6,10 +6,10 @@ use Rattle.session.proofs.listing.block_char.Goals as goal
 
 pub returns-then-from-lt-ENTRY_BLOCKS : goal.returns-then-from-lt-ENTRY_BLOCKS
 unfolding block_char
-returns-then-from-lt-ENTRY_BLOCKS c = sym (cond-true _ _ _ (lt-ltb c.args.block 8 (omega arith)))
+returns-then-from-lt-ENTRY_BLOCKS c d same = sym (cond-true _ _ _ (lt-ltb c.args.block 8 (omega arith)))
 
 pub returns-in-Some : goal.returns-in-Some
-returns-in-Some c = letter-block_char c.args.disk.bytes.now c.args.block _ (omega arith) (c.in-Some.ensures ∙ ap (position (has_block c.args.block)) c.entries.ensures)
+returns-in-Some c d same = letter-block_char d c.args.block _ (omega arith) (c.in-Some.ensures ∙ ap (position (has_block c.args.block)) same)
 
 pub returns-in-None : goal.returns-in-None
-returns-in-None c = letter-block_char c.args.disk.bytes.now c.args.block _ (omega arith) (c.in-None.ensures ∙ ap (position (has_block c.args.block)) c.entries.ensures)
+returns-in-None c d same = letter-block_char d c.args.block _ (omega arith) (c.in-None.ensures ∙ ap (position (has_block c.args.block)) same)

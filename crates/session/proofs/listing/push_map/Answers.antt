@@ -19,7 +19,7 @@ loop-block-preserved c =
     let all = c.blocks-blocks.ensures in
     let lt : b < size d = omega (arith, all) in
     let more = put_more (blocks_from d) _ out (size d) b c.loop-block.invariant (vec_items c.if-block.out) in
-    let put = c.in_ok-push.ensures.items ∙ ap (λ x. out ++ (x ∷ [])) c.block_char.ensures in
+    let put = c.in_ok-push.ensures.items ∙ ap (λ x. out ++ (x ∷ [])) (c.block_char.ensures d c.entries-entries.ensures) in
     elim c.if-block.branch [
       | then-block+in_ok-push-2 w ↦
           let last : (b % 64 ≡ 63) ⊎ (b + 1 ≡ size d) = elim w.then-block.branch [ then-block-via-then-block w' ↦ inl w'.if-block.true | then-block-via-else-block+then-block-blocks w' ↦ inr (w'.if-block-blocks.true ∙ all) ] in

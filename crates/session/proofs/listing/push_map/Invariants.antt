@@ -5,4 +5,4 @@ use Rattle.session.proofs.Texts.{PutTo}
 use Rattle.session.proofs.listing.push_map.Given as goal
 
 abbrev pub invariant-loop-block : goal.invariant-loop-block
-invariant-loop-block l = PutTo (blocks_from l.disk.bytes.now) (vec_items l.initial.out) (vec_items l.out) (size l.disk.bytes.now) l.block
+invariant-loop-block l = PutTo (blocks_from l.fn.disk.bytes.now) (vec_items l.initial.out) (vec_items l.out) (size l.fn.disk.bytes.now) l.block

@@ -1,7 +1,6 @@
-use Rattle.std.proofs.Common.{◌≡◌, ◌+◌, ◌*◌, ◌/◌, ◌≤◌, get_or, leb, length, sym, ap, ◌∙◌, subst, arith}
-use Rattle.layout.specs.declared.entry.Entry.{Entry}
+use Rattle.std.proofs.Common.{◌≡◌, ◌+◌, ◌*◌, ◌/◌, ◌≤◌, leb, length, sym, ap, ◌∙◌, subst, arith}
 use Rattle.layout.specs.Files.{entry_at}
-use Rattle.layout.proofs.Searching.{get_or-entries}
+use Rattle.layout.proofs.Searching.{decoded-table}
 use Rattle.fsck.proofs.Contents.{sound_long}
 use Rattle.fsck.proofs.Deciding.{sound_to_rules}
 use Rattle.unread.specs.Unread.{read_of_entry}
@@ -13,8 +12,7 @@ use Rattle.unread.proofs.extent.unread_rest.Goals as goal
 read : (c : goal.After-read_of_entry) → c.read_of_entry.result ≡ read_of_entry (entry_at c.args.disk.bytes.now (c.args.place / 32))
 read c =
     let i = c.args.place / 32 in
-    let same = λ (e : Entry). ap (λ es. get_or es i e) c.entries-entries.ensures ∙ get_or-entries c.args.disk.bytes.now i e c.if-i-lt-ENTRIES.true in
-    c.read_of_entry.ensures ∙ ap read_of_entry (same _)
+    c.read_of_entry.ensures ∙ ap read_of_entry (c.decode-entry.ensures.fields ∙ decoded-table c.args.disk.bytes.now c.table.result.now i _ c.table.ensures c.if-i-lt-ENTRIES.true)
 
 most : (c : goal.After-read_of_entry) → c.read_of_entry.result ≤ 30
 most c = subst (λ n. n ≤ 30) (sym (read c)) (read_of_entry_most c.args.disk.bytes.now (c.args.place / 32) (sound_to_rules c.args.disk.bytes.now c.args.disk.sound) c.if-i-lt-ENTRIES.true)
