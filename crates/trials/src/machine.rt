@@ -1,4 +1,5 @@
 // An old machine of its own, straight from the rules of the format. It shares no code with the library.
+ghost use Rattle.std.specs.Prelude.{◌<◌, ◌≤◌, length, IfSome};
 
 // The machine, with a disk in it.
 #[derive(Clone, Copy)]
@@ -33,12 +34,16 @@ impl<'a> Entry<'a> {
     }
 
     // How many bytes the file has: the low byte first.
-    fn len(self) -> usize {
+    fn len(self) -> usize
+        ensures { result < 65536 }
+    {
         usize::from(u16::from_le_bytes([self.bytes[12], self.bytes[13]]))
     }
 
     // How many blocks they fill, the last perhaps not wholly.
-    fn filled(self) -> usize {
+    fn filled(self) -> usize
+        ensures { result ≤ 1024 }
+    {
         self.len().div_ceil(64)
     }
 
@@ -67,7 +72,9 @@ impl<'a> Machine<'a> {
     }
 
     // The sixteen entries, or as many as the disk has.
-    fn entries(&self) -> &'a [[u8; 32]] {
+    fn entries(&self) -> &'a [[u8; 32]]
+        ensures { length result.now ≤ 16 }
+    {
         let (entries, _) = self.disk.as_chunks::<32>();
         &entries[..entries.len().min(16)]
     }
@@ -109,17 +116,20 @@ impl<'a> Machine<'a> {
         None
     }
 
-    // The first entry that is in use and has the name.
-    fn find(&self, name: &[u8]) -> Option<Entry<'a>> {
+    // The place of the first entry that is in use and has the name.
+    fn find(&self, name: &[u8]) -> Option<usize>
+        ensures { IfSome result (λ i. i < 16) }
+    {
         self.entries()
             .iter()
             .map(|bytes| Entry { bytes })
-            .find(|entry| entry.is_used() && entry.name() == name)
+            .position(|entry| entry.is_used() && entry.name() == name)
     }
 
     // The file's bytes, once they are in the room; nothing where there is no file, or where it has more bytes than the room.
     pub fn read<'r>(&self, name: &[u8], room: &'r mut [u8; LONGEST]) -> Option<&'r [u8]> {
-        let entry = self.find(name)?;
+        let bytes = self.entries().get(self.find(name)?)?;
+        let entry = Entry { bytes };
         // A block past the end of the disk leaves its part of the room alone.
         for (part, b) in room.chunks_exact_mut(64).zip(entry.blocks()) {
             let from = 64 * usize::from(*b);
