@@ -6,7 +6,7 @@ use console::show::push_number;
 use std::alloc::AllocError;
 use update::answer::{Done, Refusal};
 
-// The number of the refusal, and the place. Piece by piece, as the lines of a listing, since a format would take memory for each line.
+// The number of the refusal, and the place. Piece by piece, as the lines of a listing: `format!` would take memory for each line, and `write!` twice the time.
 pub fn push_refused(out: &mut Vec<u8>, refusal: Refusal, place: usize) -> Result<(), AllocError>
     ensures { OnOk result (out.new.items ≡ out.old.items ++ refused_line refusal place) }
 {
